@@ -1,0 +1,11 @@
+-- The meaning of document 01, in its order: a reader starts at the top and never needs a later file.
+pub mod Words
+pub mod Yard
+pub mod Sheet
+pub mod Plan
+pub mod Conflict
+pub mod Colour
+pub mod Rounds
+pub mod Answer
+pub mod Judge
+pub mod Lister

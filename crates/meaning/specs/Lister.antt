@@ -1,0 +1,58 @@
+-- Document 01, "The lister": what is printed for the bytes on standard input.
+use mathlib.Core.Bool.{cond}
+use mathlib.Core.List.{List, [], _∷_, _++_}
+use Prim.Native.Nat.{ℕ, zero, suc, _+_, _/_, _%_}
+use Prim.Native.Char.{code}
+use Prim.Native.String.{String, [] as end, _∷_ as _and_}
+use lib.Dec.{ltb}
+use lib.ListN.{length, take}
+use Rattle.meaning.specs.declared.Outcome.{Outcome}
+use Rattle.meaning.specs.declared.Planned.{Planned}
+use Rattle.meaning.specs.Sheet.{allPackets, heaviest}
+use Rattle.meaning.specs.Rounds.{byProbe, slotsOf}
+use Rattle.meaning.specs.Answer.{isAccepted, planAnswer}
+
+-- the bytes of a plain text
+unfoldable pub text : String → List ℕ
+text end = []
+text (letter and rest) = code letter ∷ text rest
+
+-- a number in decimal, of at most so many digits
+unfoldable pub decimal : ℕ → ℕ → List ℕ
+decimal zero n = []
+decimal (suc more) n = cond (ltb n 10) ((48 + n) ∷ []) (decimal more (n / 10) ++ ((48 + n % 10) ∷ []))
+
+-- a word, a space and a number
+abbrev pub said : String → ℕ → List ℕ
+said word n = text word ++ text " " ++ decimal 5 n
+
+-- "The lister": line one has M, the slots, all packets, and the packets of the heaviest branch
+abbrev pub firstLine : List ℕ → Planned → List ℕ
+firstLine s planned =
+    said "colours" (planned .colours) ++ said " slots" (planned .slots) ++ said " packets" (allPackets s) ++ said " heaviest" (heaviest s)
+    ++ text "\n"
+
+-- "The lister": the senders of a slot, each after a space
+unfoldable pub sendersText : List ℕ → List ℕ
+sendersText [] = []
+sendersText (v ∷ slot) = said "" v ++ sendersText slot
+
+-- "The lister": each other line has a slot number, from 1, a colon, and its senders; `done` slots stand before
+unfoldable pub slotLines : ℕ → List (List ℕ) → List ℕ
+slotLines done [] = []
+slotLines done (slot ∷ slots) = decimal 5 (suc done) ++ text ":" ++ sendersText slot ++ text "\n" ++ slotLines (suc done) slots
+
+-- "The lister": a refusal prints only its number and place
+abbrev pub refusalLine : Outcome → List ℕ
+refusalLine outcome = said "refused" (outcome .number) ++ said "" (outcome .place) ++ text "\n"
+
+-- "The lister": the plan by probe of a sheet, in a buffer with room for any plan
+unfoldable pub sheetListed : List ℕ → List ℕ
+sheetListed s =
+    let way = byProbe s in
+    let planned = planAnswer s way 60482 in
+    cond (isAccepted (planned .outcome)) (firstLine s planned ++ slotLines 0 (slotsOf s way)) (refusalLine (planned .outcome))
+
+-- "The lister": at most 4,162 bytes are read, which decide every answer
+abbrev pub listing : List ℕ → List ℕ
+listing input = sheetListed (take 4162 input)

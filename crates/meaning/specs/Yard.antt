@@ -1,0 +1,31 @@
+-- Document 01, "Numbers of the yard": probes, levels, hops; and the packets of a branch, for demand 3.
+use mathlib.Core.Bool.{Bool, cond, _&&_, _||_}
+use Prim.Native.Nat.{ℕ, zero, suc, _+_, _*_}
+use lib.Dec.{eqb, leb}
+use Rattle.meaning.specs.Words.{sumProbes, mostProbes}
+
+-- "Numbers of the yard": node 1 is the gateway, the probes are 2 to n, and n = p + 1
+abbrev pub isProbe : ℕ → ℕ → Bool
+isProbe p v = leb 2 v && leb v (p + 1)
+
+-- "Numbers of the yard": walking from parent to parent, v comes to the node top, in at most `left` hops
+unfoldable pub reaches : (ℕ → ℕ) → ℕ → ℕ → ℕ → Bool
+reaches parent top zero v = eqb v top
+reaches parent top (suc left) v = eqb v top || reaches parent top left (parent v)
+
+-- "Numbers of the yard": the hops that this walk takes to the gateway, where at most `left` are walked
+unfoldable pub climb : (ℕ → ℕ) → ℕ → ℕ → ℕ
+climb parent zero v = 0
+climb parent (suc left) v = cond (eqb v 1) 0 (suc (climb parent left (parent v)))
+
+-- "Numbers of the yard": hops, the sum over all probes of packets times level
+abbrev pub hopsOf : ℕ → (ℕ → ℕ) → (ℕ → ℕ) → ℕ
+hopsOf p packets level = sumProbes p (λ v. packets v * level v)
+
+-- Demand 3: the packets of a branch, which is its top probe and every probe below it
+abbrev pub branchPackets : ℕ → (ℕ → ℕ) → (ℕ → ℕ) → ℕ → ℕ
+branchPackets p parent packets top = sumProbes p (λ v. cond (reaches parent top p v) (packets v) 0)
+
+-- "The lister": the packets of the heaviest branch, 0 with no probes
+abbrev pub heaviestOf : ℕ → (ℕ → ℕ) → (ℕ → ℕ) → ℕ
+heaviestOf p parent packets = mostProbes p (branchPackets p parent packets)

@@ -1,0 +1,54 @@
+// The yard's own numbers and answers. Their meaning, after document 01, stands in specs/.
+ghost use mathlib.Core.Path.{_≡_};
+ghost use Rattle.meaning.specs.Answer.{refusedPlan};
+
+// A probe's number, 2 to 64.
+pub struct Probe(pub u8);
+
+// A level, the number of hops to the gateway, 0 to 63.
+pub struct Level(pub u8);
+
+// A colour, from 1; 0 where none is given yet.
+pub struct Colour(pub u8);
+
+// A slot's number, from 1.
+pub struct Slot(pub u16);
+
+// A number of document 01's table and its place; both are 0 where nothing is wrong.
+pub struct Outcome {
+    pub number: u8,
+    pub place: u16,
+}
+
+// What a planner answers; the last three are 0 on refusal.
+pub struct Planned {
+    pub outcome: Outcome,
+    pub colours: u8,
+    pub slots: u16,
+    pub bytes: usize,
+}
+
+// What the judge answers; the slots are 0 unless the plan is passed.
+pub struct Verdict {
+    pub outcome: Outcome,
+    pub slots: u16,
+}
+
+// Which of two plans the chooser hands back.
+pub enum Choice {
+    Neither,
+    First,
+    Second,
+}
+
+// A planner's answer where it refuses.
+pub fn refused_plan(outcome: Outcome) -> Planned
+    ensures { λ r. ⌜ r ≡ refusedPlan outcome ⌝ }
+{
+    Planned {
+        outcome,
+        colours: 0,
+        slots: 0,
+        bytes: 0,
+    }
+}
