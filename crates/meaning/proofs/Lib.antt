@@ -1,2 +1,3 @@
 -- Facts about the definitions that belong to no one function.
+pub mod Turns
 pub mod Yards

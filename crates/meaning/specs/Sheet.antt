@@ -49,9 +49,9 @@ parentOf s v = cond (isProbe (probeCount s) v) (firstOf (probeRecords s) (v - 2)
 unfoldable pub packetsOf : List ℕ → ℕ → ℕ
 packetsOf s v = cond (isProbe (probeCount s) v) (secondOf (probeRecords s) (v - 2)) 0
 
--- "Numbers of the yard": the level of a node; a walk that arrives has at most p hops
+-- "Numbers of the yard": the level of a probe; a walk that arrives has at most p hops
 unfoldable pub levelOf : List ℕ → ℕ → ℕ
-levelOf s v = climb (parentOf s) (probeCount s) v
+levelOf s v = cond (isProbe (probeCount s) v) (climb (parentOf s) (probeCount s) v) 0
 
 -- "Numbers of the yard": the hops of a sheet; and, for the lister, all its packets and its heaviest branch
 unfoldable pub hops : List ℕ → ℕ
