@@ -17,9 +17,9 @@ holds held v = ltb 0 (getD held v 0)
 abbrev pub outside : ℕ → List ℕ → Bool
 outside p held = someProbe p (holds held)
 
--- "The two plans": v conflicts with one chosen so far; chosen has a flag for each node
+-- "The two plans": one chosen so far conflicts with v; chosen has a flag for each node
 abbrev pub clashes : (ℕ → ℕ → Bool) → List Bool → ℕ → Bool
-clashes relation chosen v = some places (λ y. getD chosen y false && relation v y)
+clashes relation chosen v = some places (λ x. getD chosen x false && relation x v)
 
 -- "The two plans": v joins if it may and conflicts with none chosen so far (one that is chosen stays chosen)
 abbrev pub joins : (ℕ → ℕ → Bool) → (ℕ → Bool) → ℕ → List Bool → List Bool
