@@ -1,5 +1,7 @@
 -- Facts about the definitions that belong to no one function.
 pub mod Turns
+pub mod Walk
 pub mod Moving
 pub mod Slots
+pub mod Colouring
 pub mod Yards

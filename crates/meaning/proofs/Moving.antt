@@ -2,7 +2,7 @@
 -- With the weight 1 this is conservation, with the level it counts the hops. By recursion over the senders.
 -- Assumes nothing.
 use mathlib.Core.Path.{_≡_, refl, sym, ap, ap₂, _∙_, subst}
-use mathlib.Core.List.{List, [], _∷_}
+use mathlib.Core.List.{List, [], _∷_, _++_}
 use mathlib.Core.Logic.{_⊎_, inl, inr, _≢_, ⊎-elim}
 use Prim.Native.Nat.{ℕ, zero, suc, _+_, _-_, _*_, _≤_, _<_}
 use native.Mathlib.Nat.{not-suc-le-zero, suc-mul}
@@ -130,3 +130,33 @@ length-moved parent (v ∷ slot) held = length-moved parent slot (hop parent v h
 pub kept : (parent : ℕ → ℕ) (lo : ℕ) (slot held : List ℕ) → length held ≡ places → Rising lo slot → Each (Sender parent held) slot
     → weigh (λ _. 1) (moved parent slot held) ≡ weigh (λ _. 1) held
 kept parent lo slot held hl rising sending = omega (arith, weigh-moved (λ _. 1) parent lo slot held hl rising sending)
+
+-- one slot after another
+pub moved-append : (parent : ℕ → ℕ) (xs ys held : List ℕ) → moved parent (xs ++ ys) held ≡ moved parent ys (moved parent xs held)
+unfolding moved
+moved-append parent [] ys held = refl
+moved-append parent (x ∷ xs) ys held = moved-append parent xs ys (hop parent x held)
+
+-- who does not send has no less afterwards
+pub moved-keeps : (parent : ℕ → ℕ) (u : ℕ) (slot held : List ℕ) → length held ≡ places → u < places → Each (λ v. u ≢ v) slot
+    → getD held u 0 ≤ getD (moved parent slot held) u 0
+unfolding moved Each
+moved-keeps parent u [] held hl hu others = omega arith
+moved-keeps parent u (v ∷ slot) held hl hu others =
+    let first = hop-keeps parent v u held hl (others .0) hu in
+    let rest = moved-keeps parent u slot (hop parent v held) (length-hop parent v held ∙ hl) hu (others .1) in
+    omega (arith, first, rest)
+
+-- no node holds more than all together
+in-sum : (n : ℕ) (held : List ℕ) (u : ℕ) → u < n → getD held u 0 ≤ sum n (λ k. getD held k 0 * 1)
+unfolding sum
+in-sum zero held u h = absurd (not-suc-le-zero h)
+in-sum (suc n) held u h =
+    ⊎-elim (λ (b : u < n). omega (arith, in-sum n held u b))
+    (λ (e : u ≡ n).
+    let here : getD held u 0 ≡ getD held n 0 = ap (λ (j : ℕ). getD held j 0) e in
+    omega (arith, here))
+    (below-or-last u n h)
+
+pub in-all : (held : List ℕ) (u : ℕ) → u < places → getD held u 0 ≤ weigh (λ _. 1) held
+in-all held u h = in-sum places held u h

@@ -88,15 +88,15 @@ only-joined p relation may chosen only =
 
 -- the senders of a slot may send
 pub each-slot : (p : ℕ) (relation : ℕ → ℕ → Bool) (may : ℕ → Bool) (owners : List Bool) → Only may owners
-    → Each (λ v. (may v ≡ true) × (v < p + 2)) (slotOf p relation may owners)
+    → Each (λ v. (may v ≡ true) × (2 ≤ v) × (v < p + 2)) (slotOf p relation may owners)
 unfolding slotOf Each
 each-slot p relation may owners only = go (someProbe p (λ v. getD owners v false))
   where
-    go : (b : Bool) → Each (λ v. (may v ≡ true) × (v < p + 2)) (cond b (senders p (joined p relation may owners)) [])
+    go : (b : Bool) → Each (λ v. (may v ≡ true) × (2 ≤ v) × (v < p + 2)) (cond b (senders p (joined p relation may owners)) [])
     go false = tt
     go true =
-        each-probe (λ v. (may v ≡ true) × (v < p + 2)) p (λ v. getD (joined p relation may owners) v false)
-        (λ k hk e. (only-joined p relation may owners only (k + 2) e, omega arith))
+        each-probe (λ v. (may v ≡ true) × (2 ≤ v) × (v < p + 2)) p (λ v. getD (joined p relation may owners) v false)
+        (λ k hk e. (only-joined p relation may owners only (k + 2) e, omega arith, omega arith))
 
 pub rising-slot : (p : ℕ) (relation : ℕ → ℕ → Bool) (may : ℕ → Bool) (owners : List Bool) → Rising 1 (slotOf p relation may owners)
 unfolding slotOf Rising

@@ -5,7 +5,7 @@ use Prim.Native.Nat.{ℕ, _+_, _-_, _*_}
 use lib.Dec.{eqb}
 use lib.ListN.{getD, drop}
 use Rattle.meaning.specs.Words.{some, sumProbes}
-use Rattle.meaning.specs.Yard.{isProbe, climb, hopsOf, heaviestOf}
+use Rattle.meaning.specs.Yard.{isProbe, levelBy, hopsOf, heaviestOf}
 
 -- a number of two bytes at a place, high byte first
 abbrev pub twoAt : List ℕ → ℕ → ℕ
@@ -49,9 +49,9 @@ parentOf s v = cond (isProbe (probeCount s) v) (firstOf (probeRecords s) (v - 2)
 unfoldable pub packetsOf : List ℕ → ℕ → ℕ
 packetsOf s v = cond (isProbe (probeCount s) v) (secondOf (probeRecords s) (v - 2)) 0
 
--- "Numbers of the yard": the level of a probe; a walk that arrives has at most p hops
+-- "Numbers of the yard": the level of a probe
 unfoldable pub levelOf : List ℕ → ℕ → ℕ
-levelOf s v = cond (isProbe (probeCount s) v) (climb (parentOf s) (probeCount s) v) 0
+levelOf s v = levelBy (probeCount s) (parentOf s) v
 
 -- "Numbers of the yard": the hops of a sheet; and, for the lister, all its packets and its heaviest branch
 unfoldable pub hops : List ℕ → ℕ

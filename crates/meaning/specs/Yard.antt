@@ -18,6 +18,10 @@ unfoldable pub climb : (ℕ → ℕ) → ℕ → ℕ → ℕ
 climb parent zero v = 0
 climb parent (suc left) v = cond (eqb v 1) 0 (suc (climb parent left (parent v)))
 
+-- "Numbers of the yard": the level of a probe; a walk that arrives has at most p hops
+abbrev pub levelBy : ℕ → (ℕ → ℕ) → ℕ → ℕ
+levelBy p parent v = cond (isProbe p v) (climb parent p v) 0
+
 -- "Numbers of the yard": hops, the sum over all probes of packets times level
 abbrev pub hopsOf : ℕ → (ℕ → ℕ) → (ℕ → ℕ) → ℕ
 hopsOf p packets level = sumProbes p (λ v. packets v * level v)

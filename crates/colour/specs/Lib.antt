@@ -1,0 +1,2 @@
+-- What the contracts of colouring cite besides the meaning.
+pub mod Row

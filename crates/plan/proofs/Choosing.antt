@@ -1,0 +1,122 @@
+-- Who may send, and what choosing one more changes.
+-- Assumes nothing.
+use mathlib.Core.Path.{_≡_, refl, sym, ap, ap₂, _∙_, subst}
+use mathlib.Core.Bool.{Bool, true, false, cond, not, _&&_, _||_, and-false, and-true, or-true, or-false, or-self}
+use mathlib.Core.List.{List}
+use mathlib.Core.Logic.{_≢_, ⊎-elim}
+use Prim.Native.Nat.{ℕ, zero, suc, _+_, _≤_, _<_}
+use native.Mathlib.Nat.{not-suc-le-zero}
+use native.Mathlib.Omega.{arith}
+use borrow.Author.Tests.{le-ltb, lt-ltb, eq-eqb, ne-eqb}
+use lib.Dec.{eqb, ltb}
+use lib.ListN.{length, getD, set, length-set}
+use lib.Seq.{getD-set-same, getD-set-other}
+use Rattle.meaning.specs.Words.{forEach, some, tab, places}
+use Rattle.meaning.specs.Rounds.{holds, clashes, joins, joined}
+use Rattle.plan.specs.Turn.{blockedBy, mayFor, anyTaken, Considered, Joining}
+use Rattle.meaning.proofs.Turns.{below-or-last, forEach-one, forEach-keeps, some-one, some-same, tab-same, getD-tab}
+
+module _ (own held : List ℕ) (s v : ℕ) where
+  pub may-empty : getD held v 0 ≡ 0 → false ≡ mayFor own s held v
+  may-empty e = sym (ap (λ (b : Bool). (eqb s 0 || eqb (getD own v 0) s) && b) (le-ltb 0 (getD held v 0) (omega arith)) ∙ and-false (eqb s 0 || eqb (getD own v 0) s))
+
+  pub may-join : getD held v 0 ≢ 0 → s ≡ 0 → true ≡ mayFor own s held v
+  may-join h e = sym (ap₂ (λ (a b : Bool). (a || eqb (getD own v 0) s) && b) (eq-eqb s 0 e) (lt-ltb 0 (getD held v 0) (omega arith)))
+
+  pub may-own : getD held v 0 ≢ 0 → s ≢ 0 → eqb (getD own v 0) s ≡ mayFor own s held v
+  may-own h n =
+      sym (ap₂ (λ (a b : Bool). (a || eqb (getD own v 0) s) && b) (ne-eqb s 0 n) (lt-ltb 0 (getD held v 0) (omega arith)) ∙ and-true (eqb (getD own v 0) s))
+
+-- one more is chosen: it blocks all that it conflicts with
+some-set : (n : ℕ) (relation : ℕ → ℕ → Bool) (chosen : List Bool) (v i : ℕ) → v < n → v < length chosen
+    → some n (λ x. getD (set chosen v true) x false && relation x i) ≡ (some n (λ x. getD chosen x false && relation x i) || relation v i)
+unfolding some
+some-set zero relation chosen v i h hl = absurd (not-suc-le-zero h)
+some-set (suc n) relation chosen v i h hl =
+    ⊎-elim
+    (λ (b : v < n).
+    let other : getD (set chosen v true) n false ≡ getD chosen n false = getD-set-other chosen v n true false (omega arith) in
+    ap₂ (λ (x y : Bool). x || y && relation n i) (some-set n relation chosen v i b hl) other
+    ∙ swap (some n (λ x. getD chosen x false && relation x i)) (relation v i) (getD chosen n false && relation n i))
+    (λ (e : v ≡ n).
+    let same : some n (λ x. getD (set chosen v true) x false && relation x i) ≡ some n (λ x. getD chosen x false && relation x i) =
+    some-same n (λ x. getD (set chosen v true) x false && relation x i) (λ x. getD chosen x false && relation x i)
+    (λ x hx. ap (λ (y : Bool). y && relation x i) (getD-set-other chosen v x true false (omega arith)))
+    in
+    let here : getD (set chosen v true) n false ≡ true = subst (λ (j : ℕ). getD (set chosen v true) j false ≡ true) e (getD-set-same chosen v true false hl) in
+    ap₂ (λ (x y : Bool). x || y && relation n i) same here
+    ∙ absorb (some n (λ x. getD chosen x false && relation x i)) (getD chosen n false) (relation n i)
+    ∙ ap (λ (j : ℕ). (some n (λ x. getD chosen x false && relation x i) || getD chosen n false && relation n i) || relation j i) (sym e))
+    (below-or-last v n h)
+  where
+    swap : (a b c : Bool) → ((a || b) || c) ≡ ((a || c) || b)
+    swap true b c = refl
+    swap false true c = sym (or-true c)
+    swap false false c = sym (or-false c)
+
+    absorb : (a c b : Bool) → (a || b) ≡ ((a || c && b) || b)
+    absorb true c b = refl
+    absorb false true b = sym (or-self b)
+    absorb false false b = refl
+
+module _ (relation : ℕ → ℕ → Bool) (may : ℕ → Bool) (v : ℕ) (chosen blocked : List Bool) (h : v < places) (long : length chosen ≡ places)
+    (knows : blocked ≡ blockedBy relation chosen) where
+  -- what `blocked` says of v
+  known : getD blocked v false ≡ clashes relation chosen v
+  known = ap (λ (l : List Bool). getD l v false) knows ∙ getD-tab places (clashes relation chosen) v false h
+
+  skipped : (may v && not (clashes relation chosen v)) ≡ false → Considered relation may v chosen chosen blocked false
+  skipped e = record { chose = sym (ap (λ (b : Bool). cond b (set chosen v true) chosen) e); knows = knows; took = sym e }
+
+  -- v may not
+  pub not-allowed : may v ≡ false → Considered relation may v chosen chosen blocked false
+  not-allowed e = skipped (ap (λ (b : Bool). b && not (clashes relation chosen v)) e)
+
+  -- v is blocked
+  pub not-free : getD blocked v false ≡ true → Considered relation may v chosen chosen blocked false
+  not-free e = skipped (ap (λ (b : Bool). may v && not b) (sym known ∙ e) ∙ and-false (may v))
+
+  -- v is taken
+  pub taken : may v ≡ true → getD blocked v false ≡ false → (row blocked′ : List Bool) → ((i : ℕ) → getD row i false ≡ relation v i)
+      → blocked′ ≡ tab places (λ i. getD blocked i false || getD row i false) → Considered relation may v chosen (set chosen v true) blocked′ true
+  taken m e row blocked′ r q =
+      let test : (may v && not (clashes relation chosen v)) ≡ true = ap₂ (λ (a b : Bool). a && not b) m (sym known ∙ e) in
+      record {
+        chose = sym (ap (λ (b : Bool). cond b (set chosen v true) chosen) test);
+        knows =
+            q
+            ∙ tab-same places (λ i. getD blocked i false || getD row i false) (clashes relation (set chosen v true))
+            (λ i hi.
+            ap₂ _||_ (ap (λ (l : List Bool). getD l i false) knows ∙ getD-tab places (clashes relation chosen) i false hi) (r i)
+            ∙ sym (some-set places relation chosen v i h (omega arith)));
+        took = sym test;
+      }
+
+module _ (relation : ℕ → ℕ → Bool) (may : ℕ → Bool) (before : List Bool) where
+  pub joining-start : (blocked : List Bool) → blocked ≡ blockedBy relation before → Joining relation may before 0 before blocked false
+  unfolding forEach some joined anyTaken
+  joining-start blocked e = record { chose = refl; knows = e; took = refl }
+
+  -- the turn of probe k + 2
+  pub joining-next : (k : ℕ) (chosen blocked : List Bool) (any : Bool) → Joining relation may before k chosen blocked any → (chosen′ blocked′ : List Bool) (b : Bool)
+      → Considered relation may (k + 2) chosen chosen′ blocked′ b → Joining relation may before (k + 1) chosen′ blocked′ (any || b)
+  unfolding joined anyTaken
+  joining-next k chosen blocked any now chosen′ blocked′ b turn =
+      record {
+        chose = turn .chose ∙ ap (joins relation may (k + 2)) (now .chose) ∙ sym (forEach-one k (λ j. joins relation may (j + 2)) before);
+        knows = turn .knows;
+        took =
+            sym (some-one k (λ j. may (j + 2) && not (clashes relation (joined j relation may before) (j + 2)))
+            ∙ ap₂ _||_ (sym (now .took))
+            (ap (λ (l : List Bool). may (k + 2) && not (clashes relation l (k + 2))) (sym (now .chose)) ∙ sym (turn .took)));
+      }
+
+  pub joining-long : (k : ℕ) → length (joined k relation may before) ≡ length before
+  unfolding joined
+  joining-long k =
+      forEach-keeps (λ (l : List Bool). length l ≡ length before) k (λ j. joins relation may (j + 2)) before refl
+      (λ j hj a h. kept (may (j + 2) && not (clashes relation a (j + 2))) (j + 2) a h)
+    where
+      kept : (b : Bool) (u : ℕ) (a : List Bool) → length a ≡ length before → length (cond b (set a u true) a) ≡ length before
+      kept true u a h = length-set a u true ∙ h
+      kept false u a h = h

@@ -1,0 +1,239 @@
+-- Turn after turn: what a turn writes goes behind what stands there already.
+-- Assumes nothing.
+use mathlib.Core.Path.{_≡_, refl, sym, ap, ap₂, _∙_, subst, subst₂}
+use mathlib.Core.Bool.{Bool, true, false, cond}
+use mathlib.Core.List.{List, [], _∷_, _++_, append-nil, append-assoc}
+use Prim.Native.Nat.{ℕ, zero, suc, _+_, _-_, _*_, _≤_, _<_}
+use native.Mathlib.Omega.{arith}
+use borrow.Author.Tests.{ne-eqb}
+use lib.Dec.{eqb}
+use lib.ListN.{length, getD, take, drop, length-append, length-drop, drop-of-length-le}
+use borrow.Rule.Slice.PartMut.{putMid}
+use lib.Seq.{take-all, take-at, drop-at, drop-drop}
+use Rattle.meaning.specs.Words.{forEach}
+use Rattle.meaning.specs.Plan.{front, slotBytes}
+use Rattle.meaning.specs.Rounds.{Progress, Way, holds, moved, recorded, round, rounds, slotFor, outside}
+use Rattle.meaning.proofs.Turns.{forEach-one, forEach-stays}
+use Rattle.plan.specs.Turn.{Ready, Turned, turnSlot, made}
+use Rattle.plan.specs.Going.{wayBy, from, Going}
+use Rattle.plan.proofs.Writing.{length-front}
+use Rattle.plan.proofs.Turning.{made-one, ready-next, turn-bytes}
+
+-- slots behind slots
+pub slot-bytes-append : (xs ys : List (List ℕ)) → slotBytes (xs ++ ys) ≡ slotBytes xs ++ slotBytes ys
+unfolding slotBytes
+slot-bytes-append [] ys = refl
+slot-bytes-append (x ∷ xs) ys =
+    ap (λ (l : List ℕ). (length x ∷ x) ++ l) (slot-bytes-append xs ys) ∙ sym (append-assoc (length x ∷ x) (slotBytes xs) (slotBytes ys))
+
+-- a slot recorded, empty or not
+pub recorded-made : (parent : ℕ → ℕ) (slot : List ℕ) (now : Progress)
+    → recorded parent slot now ≡ record { held = moved parent slot (now .held); slots = now .slots ++ made slot }
+unfolding recorded moved
+recorded-made parent [] now = λ i. record { held = now .held; slots = sym (append-nil (now .slots)) i }
+recorded-made parent (v ∷ slot) now = refl
+
+-- what is written into the part behind `at` stands behind what was written before
+pub front-front : (d xs ys : List ℕ) (at : ℕ) → at ≡ length xs → take at (front d xs) ++ front (drop at (front d xs)) ys ≡ front d (xs ++ ys)
+front-front d xs ys at e =
+    ap₂ (λ (a b : List ℕ). a ++ front b ys) (take-at xs (drop (length xs) d) at (sym e)) (drop-at xs (drop (length xs) d) at (sym e))
+    ∙ sym (append-assoc xs ys (drop (length ys) (drop (length xs) d)))
+    ∙ ap (λ (l : List ℕ). (xs ++ ys) ++ l) (drop-drop (length ys) (length xs) d ∙ ap (λ (k : ℕ). drop k d) (sym (length-append xs ys)))
+
+-- a turn makes a slot exactly where it takes bytes
+made-count : (slot : List ℕ) → length (made slot) ≡ cond (eqb (length (slotBytes (made slot))) 0) 0 1
+unfolding slotBytes
+made-count [] = refl
+made-count (v ∷ slot) = sym (ap (λ (b : Bool). cond b 0 1) (ne-eqb (length (slotBytes (made (v ∷ slot)))) 0 (omega arith)))
+
+made-fewer : (slot : List ℕ) → length (made slot) ≤ length (slotBytes (made slot))
+unfolding slotBytes
+made-fewer [] = omega arith
+made-fewer (v ∷ slot) = omega arith
+
+module _ (p : ℕ) (parents : List ℕ) (table : List (List Bool)) (own : List ℕ) (m : ℕ) where
+  abbrev parent : ℕ → ℕ
+  parent u = getD parents u 0
+
+  abbrev way : Way
+  way = wayBy p parents table own m
+
+  -- the first k turns of a round
+  unfoldable pub turns : ℕ → List ℕ → Progress
+  turns k held = forEach k (λ s now. recorded parent (slotFor way (s + 1) (holds (now .held))) now) (from held)
+
+  pub turns-all : (held : List ℕ) → turns m held ≡ round way (from held)
+  unfolding turns round
+  turns-all held = refl
+
+  turns-next : (k : ℕ) (held : List ℕ) → turns (k + 1) held
+      ≡ record { held = moved parent (turnSlot p (way .relation) (λ v. getD own v 0) (k + 1) (turns k held .held)) (turns k held .held); slots = turns k held .slots ++ made (turnSlot p (way .relation) (λ v. getD own v 0) (k + 1) (turns k held .held)) }
+  unfolding turns turnSlot
+  turns-next k held =
+      forEach-one k (λ s now. recorded parent (slotFor way (s + 1) (holds (now .held))) now) (from held)
+      ∙ recorded-made parent (slotFor way (k + 1) (holds (turns k held .held))) (turns k held)
+
+  pub going-start : (held rest : List ℕ) → Ready p parent held (length rest) → Going p parent (turns 0 held) held rest rest 0 0
+  unfolding turns forEach slotBytes
+  going-start held rest ready =
+      record {
+        holding = refl;
+        counted = refl;
+        made = refl;
+        wrote = refl;
+        within = omega arith;
+        fewer = omega arith;
+        ready = subst (λ (r : ℕ). Ready p parent held r) (sym (native.Mathlib.Nat.sub-zero (length rest))) ready;
+      }
+
+  -- one more turn
+  pub going-next : (k : ℕ) (held₀ held rest₀ rest : List ℕ) (at slots : ℕ) → Going p parent (turns k held₀) held rest₀ rest at slots
+      → (held′ part : List ℕ) (bytes : ℕ)
+      → Turned parent (turnSlot p (way .relation) (λ v. getD own v 0) (k + 1) held) held held′ (drop at rest) part bytes
+      → (more : ℕ) → more ≡ cond (eqb bytes 0) 0 1
+      → Going p parent (turns (k + 1) held₀) held′ rest₀ (take at rest ++ part) (at + bytes) (slots + more)
+  going-next k held₀ held rest₀ rest at slots now held′ part bytes turned more count =
+      subst (λ (then : Progress). Going p parent then held′ rest₀ (take at rest ++ part) (at + bytes) (slots + more)) (sym (turns-next k held₀))
+      (record {
+        holding = turned .moves ∙ ap (λ (h : List ℕ). moved parent (slotAt h) h) (now .holding);
+        counted =
+            ap₂ _+_ (now .counted) (turned .counted ∙ ap (λ (h : List ℕ). length (slotBytes (made (slotAt h)))) (now .holding))
+            ∙ sym (length-append (slotBytes done) (slotBytes (made (slotAt before))))
+            ∙ ap length (sym (slot-bytes-append done (made (slotAt before))));
+        made =
+            ap₂ _+_ (now .made) (count ∙ ap (λ (b : ℕ). cond (eqb b 0) 0 1) (turned .counted) ∙ sym (made-count (slotAt held)) ∙ ap (λ (h : List ℕ). length (made (slotAt h))) (now .holding))
+            ∙ sym (length-append done (made (slotAt before)));
+        wrote =
+            ap (λ (l : List ℕ). take at rest ++ l) (turned .wrote ∙ ap (λ (h : List ℕ). front (drop at rest) (slotBytes (made (slotAt h)))) (now .holding))
+            ∙ ap (λ (l : List ℕ). take at l ++ front (drop at l) (slotBytes (made (slotAt before)))) (now .wrote)
+            ∙ front-front rest₀ (slotBytes done) (slotBytes (made (slotAt before))) at (now .counted)
+            ∙ ap (front rest₀) (sym (slot-bytes-append done (made (slotAt before))));
+        within = omega (arith, now .within, turned .counted, turn-bytes p parent held (length rest₀ - at) (now .ready) (way .relation) (λ v. getD own v 0) (k + 1));
+        fewer =
+            omega (
+              arith,
+              now .fewer,
+              turned .counted,
+              count ∙ ap (λ (b : ℕ). cond (eqb b 0) 0 1) (turned .counted) ∙ sym (made-count (slotAt held)),
+              made-fewer (slotAt held),
+            );
+        ready =
+            subst₂ (λ (h : List ℕ) (r : ℕ). Ready p parent h r) (sym (turned .moves)) room
+            (ready-next p parent held (length rest₀ - at) (now .ready) (way .relation) (λ v. getD own v 0) (k + 1));
+      })
+    where
+      before : List ℕ
+      before = turns k held₀ .held
+
+      done : List (List ℕ)
+      done = turns k held₀ .slots
+
+      slotAt : List ℕ → List ℕ
+      slotAt h = turnSlot p (way .relation) (λ v. getD own v 0) (k + 1) h
+
+      room : (length rest₀ - at) - length (slotBytes (made (slotAt held))) ≡ length rest₀ - (at + bytes)
+      room = omega (arith, turned .counted)
+
+-- the buffer keeps its length
+pub going-long : {p : ℕ} {parent : ℕ → ℕ} {now : Progress} {held rest₀ rest : List ℕ} {at slots : ℕ} → Going p parent now held rest₀ rest at slots
+    → length rest ≡ length rest₀
+going-long {now} {rest₀} going = ap length (going .wrote) ∙ length-front rest₀ (slotBytes (now .slots)) (omega (arith, going .counted, going .within))
+
+-- a round only adds to the slots that are there
+module _ (way : Way) where
+  turn : ℕ → Progress → Progress
+  turn s now = recorded (way .parent) (slotFor way (s + 1) (holds (now .held))) now
+
+  -- the same progress with these slots in front
+  abbrev behind : List (List ℕ) → Progress → Progress
+  behind slots now = record { held = now .held; slots = slots ++ now .slots }
+
+  turn-behind : (s : ℕ) (slots : List (List ℕ)) (now : Progress) → turn s (behind slots now) ≡ behind slots (turn s now)
+  unfolding turn
+  turn-behind s slots now =
+      recorded-made (way .parent) slot (behind slots now)
+      ∙ (λ i. record { held = moved (way .parent) slot (now .held); slots = append-assoc slots (now .slots) (made slot) i })
+      ∙ ap (behind slots) (sym (recorded-made (way .parent) slot now))
+    where
+      slot : List ℕ
+      slot = slotFor way (s + 1) (holds (now .held))
+
+  turns-behind : (k : ℕ) (slots : List (List ℕ)) (now : Progress) → forEach k turn (behind slots now) ≡ behind slots (forEach k turn now)
+  unfolding forEach
+  turns-behind zero slots now = refl
+  turns-behind (suc k) slots now = ap (turn k) (turns-behind k slots now) ∙ turn-behind k slots (forEach k turn now)
+
+  pub round-behind : (now : Progress) → round way now ≡ behind (now .slots) (round way (from (now .held)))
+  unfolding round turn
+  round-behind now =
+      ap (forEach (way .colours) turn) (λ i. record { held = now .held; slots = sym (append-nil (now .slots)) i })
+      ∙ turns-behind (way .colours) (now .slots) (from (now .held))
+
+-- progress behind progress
+pub going-behind : (p : ℕ) (parent : ℕ → ℕ) (now then : Progress) (held rest₀ rest : List ℕ) (at slots : ℕ) → Going p parent now held rest₀ rest at slots
+    → (held′ part : List ℕ) (bytes more : ℕ) → Going p parent then held′ (drop at rest) part bytes more
+    → Going p parent (record { held = then .held; slots = now .slots ++ then .slots }) held′ rest₀ (take at rest ++ part) (at + bytes) (slots + more)
+going-behind p parent now then held rest₀ rest at slots first held′ part bytes more second =
+    record {
+      holding = second .holding;
+      counted =
+          ap₂ _+_ (first .counted) (second .counted) ∙ sym (length-append (slotBytes (now .slots)) (slotBytes (then .slots)))
+          ∙ ap length (sym (slot-bytes-append (now .slots) (then .slots)));
+      made = ap₂ _+_ (first .made) (second .made) ∙ sym (length-append (now .slots) (then .slots));
+      wrote =
+          ap (λ (l : List ℕ). take at rest ++ l) (second .wrote)
+          ∙ ap (λ (l : List ℕ). take at l ++ front (drop at l) (slotBytes (then .slots))) (first .wrote)
+          ∙ front-front rest₀ (slotBytes (now .slots)) (slotBytes (then .slots)) at (first .counted)
+          ∙ ap (front rest₀) (sym (slot-bytes-append (now .slots) (then .slots)));
+      within = omega (arith, first .within, second .within, left);
+      fewer = omega (arith, first .fewer, second .fewer);
+      ready = subst (λ (r : ℕ). Ready p parent held′ r) (omega (arith, left)) (second .ready);
+    }
+  where
+    left : length (drop at rest) ≡ length rest₀ - at
+    left = length-drop at rest ∙ ap (λ (n : ℕ). n - at) (going-long first)
+
+-- the part from `at` on, as the code lends it
+pub part-from : (l : List ℕ) (at : ℕ) → take (length l - at) (drop at l) ≡ drop at l
+part-from l at = take-all (length l - at) (drop at l) (rw (length-drop at l) (omega arith))
+
+-- the buffer after such a part was changed
+pub put-behind : (l part : List ℕ) (at : ℕ) → at ≤ length l → putMid at (length l - at) l part ≡ take at l ++ part
+put-behind l part at h =
+    let none : drop (length l - at) (drop at l) ≡ [] = drop-of-length-le (drop at l) {i = length l - at} (rw (length-drop at l) (omega arith)) in
+    ap (λ (r : List ℕ). take at l ++ (part ++ r)) none ∙ ap (λ (r : List ℕ). take at l ++ r) (append-nil part)
+
+-- rounds, while any packet is outside the gateway
+module _ (p : ℕ) (parents : List ℕ) (table : List (List Bool)) (own : List ℕ) (m : ℕ) where
+  abbrev road : Way
+  road = wayBy p parents table own m
+
+  step : ℕ → Progress → Progress
+  step _ now = cond (outside p (now .held)) (round road now) now
+
+  pub rounds-start : (held rest : List ℕ) → Ready p (road .parent) held (length rest) → Going p (road .parent) (rounds road 0 (from held)) held rest rest 0 0
+  unfolding rounds forEach turns
+  rounds-start held rest ready = going-start p parents table own m held rest ready
+
+  -- with nothing outside, the rounds that are left change nothing
+  pub rounds-stop : (r n : ℕ) (held : List ℕ) → r ≤ n → outside p (rounds road r (from held) .held) ≡ false → rounds road n (from held) ≡ rounds road r (from held)
+  unfolding rounds step
+  rounds-stop r n held h e =
+      forEach-stays r n step (from held) (forEach r step (from held)) h refl
+      (λ k _ _. ap (λ (b : Bool). cond b (round road (forEach r step (from held))) (forEach r step (from held))) e)
+
+  rounds-next : (r : ℕ) (held : List ℕ) → outside p (rounds road r (from held) .held) ≡ true
+      → rounds road (r + 1) (from held) ≡ round road (rounds road r (from held))
+  unfolding rounds step
+  rounds-next r held e =
+      forEach-one r step (from held) ∙ ap (λ (b : Bool). cond b (round road (forEach r step (from held))) (forEach r step (from held))) e
+
+  pub going-round : (r : ℕ) (held₀ held rest₀ rest : List ℕ) (at slots : ℕ) → Going p (road .parent) (rounds road r (from held₀)) held rest₀ rest at slots
+      → outside p held ≡ true → (held′ part : List ℕ) (bytes more : ℕ)
+      → Going p (road .parent) (round road (from held)) held′ (drop at rest) part bytes more
+      → Going p (road .parent) (rounds road (r + 1) (from held₀)) held′ rest₀ (take at rest ++ part) (at + bytes) (slots + more)
+  going-round r held₀ held rest₀ rest at slots now e held′ part bytes more next =
+      subst (λ (then : Progress). Going p (road .parent) then held′ rest₀ (take at rest ++ part) (at + bytes) (slots + more))
+      (sym (rounds-next r held₀ (subst (λ (h : List ℕ). outside p h ≡ true) (now .holding) e) ∙ round-behind road (rounds road r (from held₀))))
+      (going-behind p (road .parent) (rounds road r (from held₀)) (round road (from (rounds road r (from held₀) .held))) held rest₀ rest at slots now held′ part bytes more
+      (subst (λ (h : List ℕ). Going p (road .parent) (round road (from h)) held′ (drop at rest) part bytes more) (now .holding) next))

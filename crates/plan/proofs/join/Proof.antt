@@ -1,0 +1,79 @@
+-- `plan::join` meets its contract: the first k probes have had their turn, and `blocked` is what those chosen conflict with.
+-- Assumes nothing.
+use mathlib.Core.Path.{_≡_, ap, _∙_, subst}
+use Prim.Native.Nat.{ℕ, _-_, _≤_}
+use lib.ListN.{length}
+use Rattle.meaning.specs.Conflict.{entry}
+use Rattle.plan.specs.Turn.{mayFor, Joining}
+use Rattle.plan.proofs.Choosing.{joining-start, joining-next, joining-long}
+use native.Mathlib.Omega.{arith}
+use borrow.Author.Needs.{needs}
+use Rattle.plan.proofs.join.Statement.{statement}
+use Rattle.plan.proofs.join.Tie as tie
+use Rattle.plan.proofs.join.Reads as reads
+use Rattle.plan.proofs.join.Lts as lts
+use Rattle.plan.proofs.consider.Reads as consider-reads
+
+abbrev Inv-loop : tie.InvT-loop
+Inv-loop p table own s held chosen₀ blocked₀ any₀ k₀ chosen blocked any k =
+    (k ≤ p) × Joining (entry table) (mayFor own (s .0) held) chosen₀ k chosen blocked any
+
+abbrev μ-loop : tie.MeasureT-loop
+μ-loop p table own s held chosen₀ blocked₀ any₀ k₀ chosen blocked any k = p - k
+
+-- src/lib.rt:85:5
+loop-holds : tie.Need-loop-holds Inv-loop μ-loop
+loop-holds c = (search needs, joining-start _ _ _ _ (c .pre .1 .1))
+
+-- src/lib.rt:86:18
+add-v : tie.Need-add-v Inv-loop μ-loop
+add-v c = search needs
+
+-- src/lib.rt:86:17
+cast-v : tie.Need-cast-v Inv-loop μ-loop
+cast-v c = search needs
+
+-- src/lib.rt:87:13
+consider-requires : tie.Need-consider-requires Inv-loop μ-loop
+consider-requires c κs =
+    let start = c .before .before .before .before in
+    let now = c .before .before .before .loop .inv .1 in
+    (search needs, (ap length (now .chose) ∙ joining-long _ _ (start .args .chosen .now) _ ∙ start .pre .1 .0, now .knows))
+
+-- src/lib.rt:89:9
+add-k : tie.Need-add-k Inv-loop μ-loop
+add-k c = search needs
+
+-- src/lib.rt:85:5
+loop-less : tie.Need-loop-less Inv-loop μ-loop
+loop-less c = search needs
+
+-- src/lib.rt:85:5
+loop-again : tie.Need-loop-again Inv-loop μ-loop
+loop-again c =
+    let l = c .before .before .before .before .loop in
+    (search needs, joining-next _ _ _ (l .k) (l .chosen) (l .blocked) (l .any) (l .inv .1) _ _ _ (c .consider .ensures))
+
+-- src/lib.rt:69:1
+returns : tie.Need-returns Inv-loop μ-loop
+returns c =
+    let a = c .before .before .args in
+    let l = c .before .loop in
+    let all : l .k ≡ a .p = omega arith in
+    subst (λ (n : ℕ). Joining (entry (a .table .now)) (mayFor (a .own .now) (a .s .0) (a .held .now)) (a .chosen .now) n (l .chosen) (l .blocked) (l .any)) all
+    (l .inv .1)
+
+pub join-spec : {M : Type 1} → statement M
+join-spec =
+    tie.close
+    (tie.spec
+    Inv-loop
+    μ-loop
+    loop-holds
+    add-v
+    cast-v
+    consider-requires
+    add-k
+    loop-less
+    loop-again
+    returns)

@@ -1,0 +1,170 @@
+-- `plan::round` meets its contract: the first s colours have had their turn, and each slot stands behind the one before.
+-- Assumes nothing.
+use mathlib.Core.Path.{_≡_, refl, sym, ap, _∙_, subst}
+use mathlib.Core.List.{List}
+use Prim.Native.Nat.{ℕ, _+_, _-_, _≤_}
+use lib.ListN.{length, getD, take, drop, length-drop}
+use Rattle.meaning.specs.Conflict.{entry}
+use Rattle.meaning.specs.Rounds.{Progress}
+use Rattle.plan.specs.Turn.{Ready, Turned, turnSlot}
+use Rattle.plan.specs.Going.{Going}
+use Rattle.plan.proofs.Going.{turns, turns-all, going-start, going-next, going-long, part-from, put-behind}
+use native.Mathlib.Omega.{arith}
+use borrow.Author.Needs.{needs}
+use Rattle.plan.proofs.round.Statement.{statement}
+use Rattle.plan.proofs.round.Tie as tie
+use Rattle.plan.proofs.round.Reads as reads
+use Rattle.plan.proofs.round.Lts as lts
+use Rattle.plan.proofs.slots_in.Reads as slots-in-reads
+use Rattle.plan.proofs.turn.Reads as turn-reads
+
+abbrev Inv-loop : tie.InvT-loop
+Inv-loop p parents table own m held₀ rest₀ at₀ slots₀ s₀ held rest at slots s =
+    (s ≤ m) × Going p (λ u. getD parents u 0) (turns p parents table own m s held₀) held rest₀ rest at slots
+
+abbrev μ-loop : tie.MeasureT-loop
+μ-loop p parents table own m held₀ rest₀ at₀ slots₀ s₀ held rest at slots s = m - s
+
+-- src/lib.rt:218:5
+loop-holds : tie.Need-loop-holds Inv-loop μ-loop
+loop-holds c =
+    let a = c .before .args in
+    (search needs, going-start (a .p) (a .parents .now) (a .table .now) (a .own .now) (a .m) (a .held .now) (a .rest .now) (c .before .pre))
+
+-- src/lib.rt:219:57
+add-t13 : tie.Need-add-t13 Inv-loop μ-loop
+add-t13 c = search needs
+
+-- src/lib.rt:219:71
+sub-turn : tie.Need-sub-turn Inv-loop μ-loop
+sub-turn c =
+    let l = c .before .before .loop in
+    omega (arith, going-long (l .inv .1), l .inv .1 .within)
+
+-- src/lib.rt:219:71
+part-turn-start : tie.Need-part-turn-start Inv-loop μ-loop
+part-turn-start c =
+    let l = c .before .before .loop in
+    omega (arith, going-long (l .inv .1), l .inv .1 .within)
+
+-- src/lib.rt:219:71
+part-turn-end : tie.Need-part-turn-end Inv-loop μ-loop
+part-turn-end c = search needs
+
+-- src/lib.rt:219:13
+turn-requires : tie.Need-turn-requires Inv-loop μ-loop
+turn-requires c κs =
+    let a = c .before .before .before .before .before .args in
+    let l = c .before .before .before .loop in
+    let room : length (a .rest .now) - l .at ≡ length (take (length (l .rest) - l .at) (drop (l .at) (l .rest))) =
+    ap (λ (n : ℕ). n - l .at) (sym (going-long (l .inv .1))) ∙ sym (length-drop (l .at) (l .rest)) ∙ ap length (sym (part-from (l .rest) (l .at)))
+    in
+    (search needs, subst (λ (r : ℕ). Ready (a .p) (λ u. getD (a .parents .now) u 0) (l .held) r) room (l .inv .1 .ready))
+
+-- src/lib.rt:220:9
+add-at : tie.Need-add-at Inv-loop μ-loop
+add-at c =
+    let a = c .before .before .before .before .before .before .before .before .args in
+    let l = c .before .before .before .before .before .before .loop in
+    let turn = c .before .before .turn in
+    let parent : ℕ → ℕ = λ u. getD (a .parents .now) u 0 in
+    let slot = turnSlot (a .p) (entry (a .table .now)) (λ v. getD (a .own .now) v 0) (l .s + 1) (l .held) in
+    let held′ : List ℕ = turn .last .1 .1 .1 .1 .1 .0 in
+    let part : List ℕ = turn .last .1 .1 .1 .1 .1 .1 .0 in
+    let turned : Turned parent slot (l .held) held′ (drop (l .at) (l .rest)) part (turn .result) =
+    subst (λ (lent : List ℕ). Turned parent slot (l .held) held′ lent part (turn .result)) (part-from (l .rest) (l .at)) (turn .ensures)
+    in
+    let next =
+    going-next (a .p) (a .parents .now) (a .table .now) (a .own .now) (a .m) (l .s) (a .held .now) (l .held) (a .rest .now) (l .rest) (l .at) (l .slots)
+    (l .inv .1) held′ part (turn .result) turned _ refl
+    in
+    omega (arith, next .within, going-long (l .inv .1))
+
+-- src/lib.rt:221:18
+slots-in-requires : tie.Need-slots-in-requires Inv-loop μ-loop
+slots-in-requires c κs = search needs
+
+-- src/lib.rt:221:9
+add-slots : tie.Need-add-slots Inv-loop μ-loop
+add-slots c =
+    let a = c .before .before .before .before .before .before .before .before .before .args in
+    let l = c .before .before .before .before .before .before .before .loop in
+    let turn = c .before .before .before .turn in
+    let parent : ℕ → ℕ = λ u. getD (a .parents .now) u 0 in
+    let slot = turnSlot (a .p) (entry (a .table .now)) (λ v. getD (a .own .now) v 0) (l .s + 1) (l .held) in
+    let held′ : List ℕ = turn .last .1 .1 .1 .1 .1 .0 in
+    let part : List ℕ = turn .last .1 .1 .1 .1 .1 .1 .0 in
+    let turned : Turned parent slot (l .held) held′ (drop (l .at) (l .rest)) part (turn .result) =
+    subst (λ (lent : List ℕ). Turned parent slot (l .held) held′ lent part (turn .result)) (part-from (l .rest) (l .at)) (turn .ensures)
+    in
+    let next =
+    going-next (a .p) (a .parents .now) (a .table .now) (a .own .now) (a .m) (l .s) (a .held .now) (l .held) (a .rest .now) (l .rest) (l .at) (l .slots)
+    (l .inv .1) held′ part (turn .result) turned (c .slots-in .result) (c .slots-in .ensures)
+    in
+    omega (arith, next .within, next .fewer, going-long (l .inv .1))
+
+-- src/lib.rt:222:9
+add-s : tie.Need-add-s Inv-loop μ-loop
+add-s c = search needs
+
+-- src/lib.rt:218:5
+loop-less : tie.Need-loop-less Inv-loop μ-loop
+loop-less c = search needs
+
+-- src/lib.rt:218:5
+loop-again : tie.Need-loop-again Inv-loop μ-loop
+loop-again c =
+    let a = c .before .before .before .before .before .before .before .before .before .args in
+    let l = c .before .before .before .before .before .before .before .loop in
+    let turn = c .before .before .before .turn in
+    let parent : ℕ → ℕ = λ u. getD (a .parents .now) u 0 in
+    let slot = turnSlot (a .p) (entry (a .table .now)) (λ v. getD (a .own .now) v 0) (l .s + 1) (l .held) in
+    let held′ : List ℕ = turn .last .1 .1 .1 .1 .1 .0 in
+    let part : List ℕ = turn .last .1 .1 .1 .1 .1 .1 .0 in
+    let turned : Turned parent slot (l .held) held′ (drop (l .at) (l .rest)) part (turn .result) =
+    subst (λ (lent : List ℕ). Turned parent slot (l .held) held′ lent part (turn .result)) (part-from (l .rest) (l .at)) (turn .ensures)
+    in
+    let next =
+    going-next (a .p) (a .parents .now) (a .table .now) (a .own .now) (a .m) (l .s) (a .held .now) (l .held) (a .rest .now) (l .rest) (l .at) (l .slots)
+    (l .inv .1) held′ part (turn .result) turned (c .slots-in .result) (c .slots-in .ensures)
+    in (
+      search needs,
+      subst (λ (r : List ℕ). Going (a .p) parent (turns (a .p) (a .parents .now) (a .table .now) (a .own .now) (a .m) (l .s + 1) (a .held .now)) held′ (a .rest .now) r (l .at + turn .result) (l .slots + c .slots-in .result))
+          (sym (put-behind (l .rest) part (l .at) (omega (arith, going-long (l .inv .1), l .inv .1 .within)))) next,
+    )
+
+-- src/lib.rt:203:1
+same-length : tie.Need-same-length Inv-loop μ-loop
+same-length c = going-long (c .before .loop .inv .1)
+
+-- src/lib.rt:203:1
+returns : tie.Need-returns Inv-loop μ-loop
+returns c =
+    let a = c .before .before .before .args in
+    let l = c .before .loop in
+    let all : l .s ≡ a .m = omega (arith, l .inv .0) in
+    subst (λ (now : Progress). Going (a .p) (λ u. getD (a .parents .now) u 0) now (l .held) (a .rest .now) (l .rest) (l .at) (l .slots))
+    (ap (λ (k : ℕ). turns (a .p) (a .parents .now) (a .table .now) (a .own .now) (a .m) k (a .held .now)) all
+    ∙ turns-all (a .p) (a .parents .now) (a .table .now) (a .own .now) (a .m) (a .held .now))
+    (l .inv .1)
+
+pub round-spec : {M : Type 1} → statement M
+round-spec =
+    tie.close
+    (tie.spec
+    Inv-loop
+    μ-loop
+    loop-holds
+    add-t13
+    sub-turn
+    part-turn-start
+    part-turn-end
+    turn-requires
+    add-at
+    slots-in-requires
+    add-slots
+    add-s
+    loop-less
+    loop-again
+    same-length
+    returns)

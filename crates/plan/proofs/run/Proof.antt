@@ -1,0 +1,182 @@
+-- `plan::run` meets its contract: r rounds are made, and while a packet is outside another one follows.
+-- Assumes nothing.
+use mathlib.Core.Path.{_≡_, sym, ap, _∙_, subst}
+use mathlib.Core.Bool.{false}
+use mathlib.Core.List.{List}
+use Prim.Native.Nat.{ℕ, _+_, _-_, _≤_}
+use borrow.Author.Tests.{not-true, not-false}
+use lib.ListN.{length, getD, take, drop, length-drop}
+use Rattle.meaning.specs.Rounds.{Progress, outside, rounds}
+use Rattle.plan.specs.Turn.{Ready}
+use Rattle.plan.specs.Going.{wayBy, from, roundOf, Going}
+use Rattle.plan.proofs.Going.{rounds-start, rounds-stop, going-round, going-long, part-from, put-behind}
+use native.Mathlib.Omega.{arith}
+use borrow.Author.Needs.{needs}
+use Rattle.plan.proofs.run.Statement.{statement}
+use Rattle.plan.proofs.run.Tie as tie
+use Rattle.plan.proofs.run.Reads as reads
+use Rattle.plan.proofs.run.Lts as lts
+use Rattle.plan.proofs.any_outside.Reads as any-outside-reads
+use Rattle.plan.proofs.round.Reads as round-reads
+
+abbrev Inv-loop : tie.InvT-loop
+Inv-loop p parents table own m hops held₀ rest₀ at₀ slots₀ r₀ held rest at slots r =
+    (r ≤ hops) × Going p (λ u. getD parents u 0) (rounds (wayBy p parents table own m) r (from held₀)) held rest₀ rest at slots
+
+abbrev μ-loop : tie.MeasureT-loop
+μ-loop p parents table own m hops held₀ rest₀ at₀ slots₀ r₀ held rest at slots r = hops - r
+
+-- src/lib.rt:260:5
+loop-holds : tie.Need-loop-holds Inv-loop μ-loop
+loop-holds c =
+    let a = c .before .args in
+    (search needs, rounds-start (a .p) (a .parents .now) (a .table .now) (a .own .now) (a .m) (a .held .now) (a .rest .now) (c .before .pre))
+
+-- src/lib.rt:261:13
+any-outside-requires : tie.Need-any-outside-requires Inv-loop μ-loop
+any-outside-requires c κs = c .before .before .before .before .pre .small
+
+-- src/lib.rt:262:13
+same-length : tie.Need-same-length Inv-loop μ-loop
+same-length c = going-long (c .before .before .before .before .loop .inv .1)
+
+-- src/lib.rt:262:13
+returns : tie.Need-returns Inv-loop μ-loop
+returns c =
+    let a = c .before .before .before .before .before .before .args in
+    let l = c .before .before .before .before .loop in
+    let home : outside (a .p) (rounds (wayBy (a .p) (a .parents .now) (a .table .now) (a .own .now) (a .m)) (l .r) (from (a .held .now)) .held) ≡ false =
+    subst (λ (h : List ℕ). outside (a .p) h ≡ false) (l .inv .1 .holding)
+    (sym (c .before .any-outside .ensures) ∙ not-true (c .before .any-outside .result) (c .if1 .taken))
+    in
+    subst (λ (now : Progress). Going (a .p) (λ u. getD (a .parents .now) u 0) now (l .held) (a .rest .now) (l .rest) (l .at) (l .slots))
+    (sym (rounds-stop (a .p) (a .parents .now) (a .table .now) (a .own .now) (a .m) (l .r) (a .hops) (a .held .now) (l .inv .0) home)) (l .inv .1)
+
+-- src/lib.rt:264:59
+sub-round : tie.Need-sub-round Inv-loop μ-loop
+sub-round c =
+    let l = c .before .before .before .before .before .loop in
+    omega (arith, going-long (l .inv .1), l .inv .1 .within)
+
+-- src/lib.rt:264:59
+part-round-start : tie.Need-part-round-start Inv-loop μ-loop
+part-round-start c =
+    let l = c .before .before .before .before .before .loop in
+    omega (arith, going-long (l .inv .1), l .inv .1 .within)
+
+-- src/lib.rt:264:59
+part-round-end : tie.Need-part-round-end Inv-loop μ-loop
+part-round-end c = search needs
+
+-- src/lib.rt:264:13
+round-requires : tie.Need-round-requires Inv-loop μ-loop
+round-requires c κs =
+    let a = c .before .before .before .before .before .before .before .before .args in
+    let l = c .before .before .before .before .before .before .loop in
+    let room : length (a .rest .now) - l .at ≡ length (take (length (l .rest) - l .at) (drop (l .at) (l .rest))) =
+    ap (λ (n : ℕ). n - l .at) (sym (going-long (l .inv .1))) ∙ sym (length-drop (l .at) (l .rest)) ∙ ap length (sym (part-from (l .rest) (l .at)))
+    in
+    subst (λ (r : ℕ). Ready (a .p) (λ u. getD (a .parents .now) u 0) (l .held) r) room (l .inv .1 .ready)
+
+-- src/lib.rt:265:9
+add-at : tie.Need-add-at Inv-loop μ-loop
+add-at c =
+    let a = c .before .before .before .before .before .before .before .before .before .before .before .before .args in
+    let l = c .before .before .before .before .before .before .before .before .before .before .loop in
+    let made = c .before .before .before .round in
+    let out = c .before .before .before .before .before .before .before .any-outside in
+    let parent : ℕ → ℕ = λ u. getD (a .parents .now) u 0 in
+    let held′ : List ℕ = made .last .1 .1 .1 .1 .1 .0 in
+    let part : List ℕ = made .last .1 .1 .1 .1 .1 .1 .0 in
+    let gone : Going (a .p) parent (roundOf (a .p) (a .parents .now) (a .table .now) (a .own .now) (a .m) (l .held)) held′ (drop (l .at) (l .rest)) part (made .result .bytes) (made .result .slots) =
+    subst (λ (lent : List ℕ). Going (a .p) parent (roundOf (a .p) (a .parents .now) (a .table .now) (a .own .now) (a .m) (l .held)) held′ lent part (made .result .bytes) (made .result .slots)) (part-from (l .rest) (l .at)) (made .ensures)
+    in
+    let next =
+    going-round (a .p) (a .parents .now) (a .table .now) (a .own .now) (a .m) (l .r) (a .held .now) (l .held) (a .rest .now) (l .rest) (l .at) (l .slots) (l .inv .1)
+    (sym (out .ensures) ∙ not-false (out .result) (c .before .before .before .before .before .before .if1 .left)) held′ part (made .result .bytes) (made .result .slots) gone
+    in
+    omega (arith, next .within, c .before .before .before .before .before .before .before .before .before .before .before .before .good .1 .1 .1 .1 .1 .1 .1 .0 .0)
+
+-- src/lib.rt:266:9
+add-slots : tie.Need-add-slots Inv-loop μ-loop
+add-slots c =
+    let a = c .before .before .before .before .before .before .before .before .before .before .before .before .before .args in
+    let l = c .before .before .before .before .before .before .before .before .before .before .before .loop in
+    let made = c .before .before .before .before .round in
+    let out = c .before .before .before .before .before .before .before .before .any-outside in
+    let parent : ℕ → ℕ = λ u. getD (a .parents .now) u 0 in
+    let held′ : List ℕ = made .last .1 .1 .1 .1 .1 .0 in
+    let part : List ℕ = made .last .1 .1 .1 .1 .1 .1 .0 in
+    let gone : Going (a .p) parent (roundOf (a .p) (a .parents .now) (a .table .now) (a .own .now) (a .m) (l .held)) held′ (drop (l .at) (l .rest)) part (made .result .bytes) (made .result .slots) =
+    subst (λ (lent : List ℕ). Going (a .p) parent (roundOf (a .p) (a .parents .now) (a .table .now) (a .own .now) (a .m) (l .held)) held′ lent part (made .result .bytes) (made .result .slots)) (part-from (l .rest) (l .at)) (made .ensures)
+    in
+    let next =
+    going-round (a .p) (a .parents .now) (a .table .now) (a .own .now) (a .m) (l .r) (a .held .now) (l .held) (a .rest .now) (l .rest) (l .at) (l .slots) (l .inv .1)
+    (sym (out .ensures) ∙ not-false (out .result) (c .before .before .before .before .before .before .before .if1 .left)) held′ part (made .result .bytes) (made .result .slots) gone
+    in
+    omega (arith, next .within, next .fewer, c .before .before .before .before .before .before .before .before .before .before .before .before .before .good .1 .1 .1 .1 .1 .1 .1 .0 .0)
+
+-- src/lib.rt:267:9
+add-r : tie.Need-add-r Inv-loop μ-loop
+add-r c = search needs
+
+-- src/lib.rt:260:5
+loop-less : tie.Need-loop-less Inv-loop μ-loop
+loop-less c = search needs
+
+-- src/lib.rt:260:5
+loop-again : tie.Need-loop-again Inv-loop μ-loop
+loop-again c =
+    let a = c .before .before .before .before .before .before .before .before .before .before .before .before .before .args in
+    let l = c .before .before .before .before .before .before .before .before .before .before .before .loop in
+    let made = c .before .before .before .before .round in
+    let out = c .before .before .before .before .before .before .before .before .any-outside in
+    let parent : ℕ → ℕ = λ u. getD (a .parents .now) u 0 in
+    let held′ : List ℕ = made .last .1 .1 .1 .1 .1 .0 in
+    let part : List ℕ = made .last .1 .1 .1 .1 .1 .1 .0 in
+    let gone : Going (a .p) parent (roundOf (a .p) (a .parents .now) (a .table .now) (a .own .now) (a .m) (l .held)) held′ (drop (l .at) (l .rest)) part (made .result .bytes) (made .result .slots) =
+    subst (λ (lent : List ℕ). Going (a .p) parent (roundOf (a .p) (a .parents .now) (a .table .now) (a .own .now) (a .m) (l .held)) held′ lent part (made .result .bytes) (made .result .slots)) (part-from (l .rest) (l .at)) (made .ensures)
+    in
+    let next =
+    going-round (a .p) (a .parents .now) (a .table .now) (a .own .now) (a .m) (l .r) (a .held .now) (l .held) (a .rest .now) (l .rest) (l .at) (l .slots) (l .inv .1)
+    (sym (out .ensures) ∙ not-false (out .result) (c .before .before .before .before .before .before .before .if1 .left)) held′ part (made .result .bytes) (made .result .slots) gone
+    in (
+      search needs,
+      subst (λ (r : List ℕ). Going (a .p) parent (rounds (wayBy (a .p) (a .parents .now) (a .table .now) (a .own .now) (a .m)) (l .r + 1) (from (a .held .now))) held′ (a .rest .now) r (l .at + made .result .bytes) (l .slots + made .result .slots))
+          (sym (put-behind (l .rest) part (l .at) (omega (arith, going-long (l .inv .1), l .inv .1 .within)))) next,
+    )
+
+-- src/lib.rt:244:1
+same-length-2 : tie.Need-same-length-2 Inv-loop μ-loop
+same-length-2 c = going-long (c .before .loop .inv .1)
+
+-- src/lib.rt:244:1
+returns-2 : tie.Need-returns-2 Inv-loop μ-loop
+returns-2 c =
+    let a = c .before .before .before .args in
+    let l = c .before .loop in
+    let all : l .r ≡ a .hops = omega (arith, l .inv .0) in
+    subst (λ (n : ℕ). Going (a .p) (λ u. getD (a .parents .now) u 0) (rounds (wayBy (a .p) (a .parents .now) (a .table .now) (a .own .now) (a .m)) n (from (a .held .now))) (l .held) (a .rest .now) (l .rest) (l .at) (l .slots))
+    all (l .inv .1)
+
+pub run-spec : {M : Type 1} → statement M
+run-spec =
+    tie.close
+    (tie.spec
+    Inv-loop
+    μ-loop
+    loop-holds
+    any-outside-requires
+    same-length
+    returns
+    sub-round
+    part-round-start
+    part-round-end
+    round-requires
+    add-at
+    add-slots
+    add-r
+    loop-less
+    loop-again
+    same-length-2
+    returns-2)

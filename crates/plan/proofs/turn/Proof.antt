@@ -1,0 +1,80 @@
+-- `plan::turn` meets its contract: what `choose` says is who sends, and there is room because each sender has a hop to make.
+-- Assumes nothing.
+use Prim.Native.Nat.{ℕ}
+use borrow.Author.Tests.{not-true, not-false}
+use lib.ListN.{getD}
+use Rattle.meaning.specs.Conflict.{entry}
+use Rattle.plan.proofs.Turning.{turned-none, turned-slot, room-for, can-all}
+use native.Mathlib.Omega.{arith}
+use borrow.Author.Needs.{needs}
+use Rattle.plan.proofs.turn.Statement.{statement}
+use Rattle.plan.proofs.turn.Tie as tie
+use Rattle.plan.proofs.turn.Reads as reads
+use Rattle.plan.proofs.turn.Lts as lts
+use Rattle.plan.proofs.choose.Reads as choose-reads
+use Rattle.plan.proofs.move_packets.Reads as move-packets-reads
+use Rattle.plan.proofs.write_slot.Reads as write-slot-reads
+
+-- src/lib.rt:176:9
+choose-requires : tie.Need-choose-requires
+choose-requires c κs = search needs
+
+-- src/lib.rt:177:9
+returns : tie.Need-returns
+returns c =
+    let start = c .before .before .before .before .before in
+    let a = start .args in
+    let choose = c .before .choose in
+    let parent : ℕ → ℕ = λ u. getD (a .parents .now) u 0 in
+    let own : ℕ → ℕ = λ v. getD (a .own .now) v 0 in
+    turned-none (a .p) parent (a .held .now) (a .rest .now) (start .pre .1) (entry (a .table .now)) own (a .s .0) _ (choose .result) (choose .ensures) (not-true (choose .result) (c .if1 .taken))
+
+-- src/lib.rt:179:9
+write-slot-requires : tie.Need-write-slot-requires
+write-slot-requires c κs =
+    let start = c .before .before .before .before .before .before .before in
+    let a = start .args in
+    let choose = c .before .before .before .choose in
+    let parent : ℕ → ℕ = λ u. getD (a .parents .now) u 0 in
+    let own : ℕ → ℕ = λ v. getD (a .own .now) v 0 in
+    (start .pre .1 .small, room-for (a .p) parent (a .held .now) (a .rest .now) (start .pre .1) (entry (a .table .now)) own (a .s .0) _ (choose .result) (choose .ensures) (not-false (choose .result) (c .before .before .if1 .left)))
+
+-- src/lib.rt:180:5
+move-packets-requires : tie.Need-move-packets-requires
+move-packets-requires c κs =
+    let start = c .before .before .before .before .before .before .before .before .before .before .before .before in
+    let a = start .args in
+    let choose = c .before .before .before .before .before .before .before .before .choose in
+    let parent : ℕ → ℕ = λ u. getD (a .parents .now) u 0 in
+    let own : ℕ → ℕ = λ v. getD (a .own .now) v 0 in (
+      start .pre .1 .small,
+      (
+        start .pre .1 .long,
+        (start .pre .1 .few, can-all (a .p) parent (a .held .now) (a .rest .now) (start .pre .1) (entry (a .table .now)) own (a .s .0) _ (choose .result) (choose .ensures) (not-false (choose .result) (c .before .before .before .before .before .before .before .if1 .left))),
+      ),
+    )
+
+-- src/lib.rt:162:1
+same-length : tie.Need-same-length
+same-length c = search needs
+
+-- src/lib.rt:162:1
+returns-2 : tie.Need-returns-2
+returns-2 c =
+    let start = c .before .before .before .before .before .before .before .before .before .before .before .before .before in
+    let a = start .args in
+    let choose = c .before .before .before .before .before .before .before .before .before .choose in
+    let parent : ℕ → ℕ = λ u. getD (a .parents .now) u 0 in
+    let own : ℕ → ℕ = λ v. getD (a .own .now) v 0 in
+    turned-slot (a .p) parent (a .held .now) (a .rest .now) (start .pre .1) (entry (a .table .now)) own (a .s .0) _ (choose .result) (choose .ensures) (not-false (choose .result) (c .before .before .before .before .before .before .before .before .if1 .left)) _ _ _ (c .move-packets .ensures) (c .before .before .before .before .before .write-slot .ensures)
+
+pub turn-spec : {M : Type 1} → statement M
+turn-spec =
+    tie.close
+    (tie.spec
+    choose-requires
+    returns
+    write-slot-requires
+    move-packets-requires
+    same-length
+    returns-2)

@@ -1,0 +1,276 @@
+// The two planners: a sheet and a lent buffer in, the plan or a numbered refusal out.
+ghost use mathlib.Core.Path.{_≡_};
+ghost use mathlib.Core.Bool.{Bool, true, false, cond, _||_, _&&_};
+ghost use mathlib.Core.List.{List, [], _∷_, _++_};
+ghost use Prim.Native.Nat.{ℕ, _+_, _*_, _≤_, _<_};
+ghost use lib.Dec.{eqb};
+ghost use lib.ListN.{length, getD, drop, take};
+ghost use Rattle.meaning.specs.Words.{tab, places, probesThat};
+ghost use Rattle.meaning.specs.Plan.{front};
+ghost use Rattle.meaning.specs.Conflict.{entry};
+ghost use Rattle.meaning.specs.Rounds.{joined, senders, hop, moved, outside, rounds};
+ghost use Rattle.meaning.proofs.Moving.{weigh, Sender};
+ghost use Rattle.plan.specs.Turn.{blockedBy, mayFor, Considered, Joining, Written, nobody, Chosen, Ready, Turned, turnSlot};
+ghost use Rattle.plan.specs.Going.{wayBy, from, roundOf, Going};
+use meaning::Colour;
+
+// What was written into the rest of a buffer.
+struct Made {
+    bytes: usize,
+    slots: usize,
+}
+
+// Marks the probe that is chosen and all that conflict with it.
+fn block(row: &[bool; 65], blocked: &mut [bool; 65])
+    requires { ⌜ length (now blocked) ≡ 65 ⌝ }
+    ensures { λ _. ⌜ now (blocked .exit) ≡ tab places (λ k. getD (now (blocked .entry)) k false || getD (now (row .entry)) k false) ⌝ }
+{
+    let mut i = 0;
+    while i < 65 {
+        blocked[i] = blocked[i] | row[i];
+        i += 1;
+    }
+}
+
+// Whether v may send in the slot of colour s: it holds a packet, and owns the slot or, where s is 0, only joins.
+fn may(own: &[u8; 65], s: Colour, held: &[u16; 65], v: usize) -> bool
+    requires { ⌜ v < 65 ⌝ }
+    ensures { λ r. ⌜ r ≡ mayFor (now (own .entry)) (s .0) (now (held .entry)) v ⌝ }
+{
+    let colour = s.0;
+    if held[v] == 0 {
+        return false;
+    }
+    if colour == 0 {
+        return true;
+    }
+    own[v] == colour
+}
+
+// The turn of probe v to be chosen: it is, if it may and conflicts with none chosen so far; says whether it was.
+fn consider(
+    table: &[[bool; 65]; 65],
+    own: &[u8; 65],
+    s: Colour,
+    held: &[u16; 65],
+    v: usize,
+    chosen: &mut [bool; 65],
+    blocked: &mut [bool; 65],
+) -> bool
+    requires node { ⌜ v < 65 ⌝ }
+    requires long { ⌜ length (now chosen) ≡ 65 ⌝ }
+    requires known { ⌜ now blocked ≡ blockedBy (entry (now table)) (now chosen) ⌝ }
+    ensures { λ r. ⌜ Considered (entry (now (table .entry))) (mayFor (now (own .entry)) (s .0) (now (held .entry))) v (now (chosen .entry)) (now (chosen .exit)) (now (blocked .exit)) r ⌝ }
+{
+    if !may(own, s, held, v) {
+        return false;
+    }
+    if blocked[v] {
+        return false;
+    }
+    chosen[v] = true;
+    block(&table[v], blocked);
+    true
+}
+
+// Takes, in rising number, each probe of colour s (0: of any) that holds a packet and conflicts with none chosen so far; says whether any was taken.
+fn join(
+    p: u8,
+    table: &[[bool; 65]; 65],
+    own: &[u8; 65],
+    s: Colour,
+    held: &[u16; 65],
+    chosen: &mut [bool; 65],
+    blocked: &mut [bool; 65],
+) -> bool
+    requires small { ⌜ p ≤ 63 ⌝ }
+    requires long { ⌜ length (now chosen) ≡ 65 ⌝ }
+    requires known { ⌜ now blocked ≡ blockedBy (entry (now table)) (now chosen) ⌝ }
+    ensures { λ r. ⌜ Joining (entry (now (table .entry))) (mayFor (now (own .entry)) (s .0) (now (held .entry))) (now (chosen .entry)) p (now (chosen .exit)) (now (blocked .exit)) r ⌝ }
+{
+    let mut any = false;
+    let mut k: u8 = 0;
+    while k < p {
+        let v = (k + 2) as usize;
+        let taken = consider(table, own, s, held, v, chosen, blocked);
+        any = any | taken;
+        k += 1;
+    }
+    any
+}
+
+// Writes the slot of those chosen at the start of the rest of the buffer; says how many bytes it took.
+fn write_slot(rest: &mut [u8], p: u8, chosen: &[bool; 65]) -> usize
+    requires small { ⌜ p ≤ 63 ⌝ }
+    requires room { ⌜ length (senders p (now chosen)) + 1 ≤ length (now rest) ⌝ }
+    ensures { λ r. ⌜ Written (senders p (now (chosen .entry))) (now (rest .entry)) (now (rest .exit)) r ⌝ }
+{
+    rest[0] = 0;
+    let mut n: usize = 0;
+    let mut k: u8 = 0;
+    while k < p {
+        let v = k + 2;
+        if chosen[v as usize] {
+            n += 1;
+            rest[n] = v;
+        }
+        k += 1;
+    }
+    rest[0] = n as u8;
+    n + 1
+}
+
+// Moves one packet of probe v to its parent.
+fn hop(parents: &[u8; 65], v: usize, held: &mut [u16; 65])
+    requires long { ⌜ length (now held) ≡ 65 ⌝ }
+    requires few { ⌜ weigh (λ _. 1) (now held) ≤ 945 ⌝ }
+    requires sender { ⌜ Sender (λ u. getD (now parents) u 0) (now held) v ⌝ }
+    ensures { λ _. ⌜ now (held .exit) ≡ hop (λ u. getD (now (parents .entry)) u 0) v (now (held .entry)) ⌝ }
+{
+    held[v] -= 1;
+    let up = parents[v] as usize;
+    held[up] += 1;
+}
+
+// Moves a packet of each probe chosen.
+fn move_packets(p: u8, parents: &[u8; 65], chosen: &[bool; 65], held: &mut [u16; 65])
+    requires small { ⌜ p ≤ 63 ⌝ }
+    requires long { ⌜ length (now held) ≡ 65 ⌝ }
+    requires few { ⌜ weigh (λ _. 1) (now held) ≤ 945 ⌝ }
+    requires senders { ⌜ ((k : ℕ) → k < p → getD (now chosen) (k + 2) false ≡ true → Sender (λ u. getD (now parents) u 0) (now held) (k + 2)) ⌝ }
+    ensures { λ _. ⌜ now (held .exit) ≡ moved (λ u. getD (now (parents .entry)) u 0) (senders p (now (chosen .entry))) (now (held .entry)) ⌝ }
+{
+    let mut k: u8 = 0;
+    while k < p {
+        let v = (k + 2) as usize;
+        if chosen[v] {
+            hop(parents, v, held);
+        }
+        k += 1;
+    }
+}
+
+// Chooses the slot of colour s among those that hold a packet; says whether anyone owns it.
+fn choose(
+    p: u8,
+    table: &[[bool; 65]; 65],
+    own: &[u8; 65],
+    s: Colour,
+    held: &[u16; 65],
+    chosen: &mut [bool; 65],
+) -> bool
+    requires small { ⌜ p ≤ 63 ⌝ }
+    requires colour { ⌜ 1 ≤ s .0 ⌝ }
+    requires fresh { ⌜ now chosen ≡ nobody ⌝ }
+    ensures { λ r. ⌜ Chosen p (entry (now (table .entry))) (λ v. getD (now (own .entry)) v 0) (s .0) (now (held .entry)) (now (chosen .exit)) r ⌝ }
+{
+    let mut blocked = [false; 65];
+    if !join(p, table, own, s, held, chosen, &mut blocked) {
+        return false;
+    }
+    join(p, table, own, Colour(0), held, chosen, &mut blocked);
+    true
+}
+
+// The turn of colour s: writes its slot at the start of the rest and moves its packets; says how many bytes it took, 0 where there is no slot.
+fn turn(
+    p: u8,
+    parents: &[u8; 65],
+    table: &[[bool; 65]; 65],
+    own: &[u8; 65],
+    s: Colour,
+    held: &mut [u16; 65],
+    rest: &mut [u8],
+) -> usize
+    requires colour { ⌜ 1 ≤ s .0 ⌝ }
+    requires ready { ⌜ Ready p (λ u. getD (now parents) u 0) (now held) (length (now rest)) ⌝ }
+    ensures { λ r. ⌜ Turned (λ u. getD (now (parents .entry)) u 0) (turnSlot p (entry (now (table .entry))) (λ v. getD (now (own .entry)) v 0) (s .0) (now (held .entry))) (now (held .entry)) (now (held .exit)) (now (rest .entry)) (now (rest .exit)) r ⌝ }
+{
+    let mut chosen = [false; 65];
+    if !choose(p, table, own, s, held, &mut chosen) {
+        return 0;
+    }
+    let bytes = write_slot(rest, p, &chosen);
+    move_packets(p, parents, &chosen, held);
+    bytes
+}
+
+// How many slots a turn made that took so many bytes.
+fn slots_in(bytes: usize) -> usize
+    ensures { λ r. ⌜ r ≡ cond (eqb bytes 0) 0 1 ⌝ }
+{
+    if bytes == 0 {
+        return 0;
+    }
+    1
+}
+
+// A round: the turn of each colour from 1 to m, each slot into the rest that begins where the last ended.
+fn round(
+    p: u8,
+    parents: &[u8; 65],
+    table: &[[bool; 65]; 65],
+    own: &[u8; 65],
+    m: u8,
+    held: &mut [u16; 65],
+    rest: &mut [u8],
+) -> Made
+    requires { ⌜ Ready p (λ u. getD (now parents) u 0) (now held) (length (now rest)) ⌝ }
+    ensures { λ r. ⌜ Going p (λ u. getD (now (parents .entry)) u 0) (roundOf p (now (parents .entry)) (now (table .entry)) (now (own .entry)) m (now (held .entry))) (now (held .exit)) (now (rest .entry)) (now (rest .exit)) (r .bytes) (r .slots) ⌝ }
+{
+    let mut at: usize = 0;
+    let mut slots: usize = 0;
+    let mut s: u8 = 0;
+    while s < m {
+        let bytes = turn(p, parents, table, own, Colour(s + 1), held, &mut rest[at..]);
+        at += bytes;
+        slots += slots_in(bytes);
+        s += 1;
+    }
+    Made { bytes: at, slots }
+}
+
+// Whether any packet is outside the gateway.
+fn any_outside(p: u8, held: &[u16; 65]) -> bool
+    requires { ⌜ p ≤ 63 ⌝ }
+    ensures { λ r. ⌜ r ≡ outside p (now (held .entry)) ⌝ }
+{
+    let mut k: u8 = 0;
+    while k < p {
+        let v = (k + 2) as usize;
+        if held[v] != 0 {
+            return true;
+        }
+        k += 1;
+    }
+    false
+}
+
+// Rounds while any packet is outside the gateway, as many as hops at most.
+fn run(
+    p: u8,
+    parents: &[u8; 65],
+    table: &[[bool; 65]; 65],
+    own: &[u8; 65],
+    m: u8,
+    hops: u32,
+    held: &mut [u16; 65],
+    rest: &mut [u8],
+) -> Made
+    requires { ⌜ Ready p (λ u. getD (now parents) u 0) (now held) (length (now rest)) ⌝ }
+    ensures { λ r. ⌜ Going p (λ u. getD (now (parents .entry)) u 0) (rounds (wayBy p (now (parents .entry)) (now (table .entry)) (now (own .entry)) m) hops (from (now (held .entry)))) (now (held .exit)) (now (rest .entry)) (now (rest .exit)) (r .bytes) (r .slots) ⌝ }
+{
+    let mut at: usize = 0;
+    let mut slots: usize = 0;
+    let mut r: u32 = 0;
+    while r < hops {
+        if !any_outside(p, held) {
+            return Made { bytes: at, slots };
+        }
+        let more = round(p, parents, table, own, m, held, &mut rest[at..]);
+        at += more.bytes;
+        slots += more.slots;
+        r += 1;
+    }
+    Made { bytes: at, slots }
+}

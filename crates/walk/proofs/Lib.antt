@@ -1,0 +1,2 @@
+-- Facts about the definitions that belong to no one function.
+pub mod Climbing

@@ -1,0 +1,67 @@
+-- `walk::depth` meets its contract. The invariant: the deepest level so far is the most of the first k probes. The measure is what is left of p.
+-- Assumes nothing.
+use mathlib.Core.Logic.{⊎-elim}
+use mathlib.Core.Path.{_≡_, refl, ap, _∙_}
+use Prim.Native.Nat.{ℕ, _+_, _-_, _≤_}
+use native.Mathlib.Omega.{arith}
+use lib.ListN.{getD}
+use borrow.Author.Needs.{needs}
+use Rattle.meaning.specs.declared.Level.{Level}
+use Rattle.meaning.specs.Words.{most}
+use Rattle.walk.proofs.Climbing.{most-larger, most-stays}
+use Rattle.walk.proofs.depth.Statement.{statement}
+use Rattle.walk.proofs.depth.Tie as tie
+
+abbrev Inv-loop : tie.InvT-loop
+Inv-loop p levels deepest₀ k₀ deepest k = (k ≤ p) × (deepest ≡ most k (λ i. getD levels (i + 2) 0))
+
+abbrev μ-loop : tie.MeasureT-loop
+μ-loop p levels deepest₀ k₀ deepest k = p - k
+
+loop-holds : tie.Need-loop-holds Inv-loop μ-loop
+unfolding most
+loop-holds c = (omega arith, refl)
+
+cast-at-node : tie.Need-cast-at-node Inv-loop μ-loop
+cast-at-node c = search needs
+
+add-at-node : tie.Need-add-at-node Inv-loop μ-loop
+add-at-node c = search needs
+
+at-node-requires : tie.Need-at-node-requires Inv-loop μ-loop
+at-node-requires c κs = search needs
+
+add-k : tie.Need-add-k Inv-loop μ-loop
+add-k c = search needs
+
+loop-less : tie.Need-loop-less Inv-loop μ-loop
+loop-less c = search needs
+
+loop-again : tie.Need-loop-again Inv-loop μ-loop
+loop-again c =
+    let turn = c .before .before .before .before .loop in
+    let read = c .before .at-node .ensures in
+    ⊎-elim (λ w. (omega arith, w .1 ∙ most-larger _ _ _ _ (turn .inv .1) read (w .0 .taken)))
+    (λ w. (omega arith, w .1 ∙ most-stays _ _ _ _ (turn .inv .1) read (w .0 .left)))
+    (c .if1 .came)
+
+returns : tie.Need-returns Inv-loop μ-loop
+returns c =
+    let done = c .before .loop in
+    let full : done .k ≡ c .before .before .args .p = omega arith in
+    ap {B = Level} (λ (n : ℕ). record { 0 = n }) (rw full at (done .inv .1))
+
+pub depth-spec : {M : Type 1} → statement M
+depth-spec =
+    tie.close
+    (tie.spec
+    Inv-loop
+    μ-loop
+    loop-holds
+    cast-at-node
+    add-at-node
+    at-node-requires
+    add-k
+    loop-less
+    loop-again
+    returns)

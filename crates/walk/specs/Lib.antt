@@ -1,0 +1,2 @@
+-- What this crate's contracts cite beside the meaning.
+pub mod Climbed

@@ -1,0 +1,107 @@
+// Walking from parent to parent: levels, hops and the depth of a yard. Tables are by node; outside them every number is 0.
+ghost use mathlib.Core.Path.{_≡_};
+ghost use Prim.Native.Nat.{_*_, _≤_};
+ghost use lib.ListN.{getD};
+ghost use Rattle.meaning.specs.Words.{mostProbes};
+ghost use Rattle.meaning.specs.Yard.{hopsOf};
+ghost use Rattle.walk.specs.Climbed.{climbed, levelsBy};
+ghost use Rattle.meaning.specs.Yard.{levelBy};
+use meaning::Level;
+use meaning::Probe;
+
+// Where a walk to parents ends.
+pub enum Walk {
+    Arrives(Level),
+    Never,
+}
+
+// What a table by node says of a node, 0 outside.
+fn at_node(table: &[u8], v: usize) -> u8
+    ensures { λ r. ⌜ r ≡ getD (now (table .entry)) v 0 ⌝ }
+{
+    if v < table.len() { table[v] } else { 0 }
+}
+
+// The level of a probe whose walk has `left` hops to take.
+pub fn climb(parents: &[u8; 65], v: Probe, left: u8) -> Walk
+    ensures { λ r. ⌜ r ≡ climbed (λ u. getD (now (parents .entry)) u 0) left (v .0) ⌝ }
+{
+    let node = v.0;
+    if node == 1 {
+        return Walk::Arrives(Level(0));
+    }
+    if left == 0 {
+        return Walk::Never;
+    }
+    let parent = at_node(parents, node as usize);
+    match climb(parents, Probe(parent), left - 1) {
+        Walk::Arrives(level) => Walk::Arrives(Level(level.0 + 1)),
+        Walk::Never => Walk::Never,
+    }
+}
+
+// The level of a node, 0 if it is no probe; p hops are enough for any walk that arrives.
+fn level_at(parents: &[u8; 65], p: u8, v: u8) -> u8
+    ensures { λ r. ⌜ r ≡ levelBy p (λ u. getD (now (parents .entry)) u 0) v ⌝ }
+{
+    if v < 2 {
+        return 0;
+    }
+    if p < v - 1 {
+        return 0;
+    }
+    match climb(parents, Probe(v), p) {
+        Walk::Arrives(level) => level.0,
+        Walk::Never => p,
+    }
+}
+
+// The levels of a yard of p probes, by node.
+pub fn levels(parents: &[u8; 65], p: u8) -> [u8; 65]
+    ensures { λ r. ⌜ r ≡ levelsBy p (λ u. getD (now (parents .entry)) u 0) ⌝ }
+{
+    let mut levels = [0u8; 65];
+    let mut v: u8 = 0;
+    while v < 65 {
+        levels[v as usize] = level_at(parents, p, v);
+        v += 1;
+    }
+    levels
+}
+
+// The hops of one node: its packets times its level.
+fn hops_at(packets: &[u8; 65], levels: &[u8; 65], v: usize) -> u32
+    ensures { λ r. ⌜ r ≡ getD (now (packets .entry)) v 0 * getD (now (levels .entry)) v 0 ⌝ }
+    ensures { λ r. ⌜ r ≤ 65025 ⌝ }
+{
+    at_node(packets, v) as u32 * at_node(levels, v) as u32
+}
+
+// The sum over all probes of packets times level.
+pub fn hops(p: u8, packets: &[u8; 65], levels: &[u8; 65]) -> u32
+    ensures { λ r. ⌜ r ≡ hopsOf p (λ v. getD (now (packets .entry)) v 0) (λ v. getD (now (levels .entry)) v 0) ⌝ }
+{
+    let mut hops: u32 = 0;
+    let mut k: u8 = 0;
+    while k < p {
+        hops += hops_at(packets, levels, k as usize + 2);
+        k += 1;
+    }
+    hops
+}
+
+// The deepest level of a probe, 0 with no probes.
+pub fn depth(p: u8, levels: &[u8; 65]) -> Level
+    ensures { λ r. ⌜ r ≡ record { 0 = mostProbes p (λ v. getD (now (levels .entry)) v 0) } ⌝ }
+{
+    let mut deepest: u8 = 0;
+    let mut k: u8 = 0;
+    while k < p {
+        let level = at_node(levels, k as usize + 2);
+        if deepest < level {
+            deepest = level;
+        }
+        k += 1;
+    }
+    Level(deepest)
+}
