@@ -5,3 +5,4 @@ pub mod Writing
 pub mod Sending
 pub mod Turning
 pub mod Going
+pub mod Filling

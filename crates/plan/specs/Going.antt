@@ -5,9 +5,9 @@ use mathlib.Core.List.{List, []}
 use Prim.Native.Nat.{ℕ, _+_, _-_, _≤_}
 use lib.ListN.{length, getD}
 use Rattle.meaning.specs.Words.{forEach}
-use Rattle.meaning.specs.Plan.{front, slotBytes}
+use Rattle.meaning.specs.Plan.{front, slotBytes, planBytes}
 use Rattle.meaning.specs.Conflict.{entry}
-use Rattle.meaning.specs.Rounds.{Progress, Way, ownersByLevel, recorded, round}
+use Rattle.meaning.specs.Rounds.{Progress, Way, ownersByLevel, recorded, round, rounds}
 use Rattle.plan.specs.Turn.{Ready, turnSlot}
 
 -- the way that the code goes by: `own` is each probe's colour, or that of its level
@@ -38,3 +38,14 @@ pub record Going (p : ℕ) (parent : ℕ → ℕ) (now : Progress) (held rest re
   pub within : bytes ≤ length rest
   pub fewer : slots ≤ bytes
   pub ready : Ready p parent held (length rest - bytes)
+
+-- the slots of the plan that begins with these packets
+abbrev pub slotsBy : ℕ → List ℕ → List (List Bool) → List ℕ → ℕ → ℕ → List ℕ → List (List ℕ)
+slotsBy p parents table own m hops packets = rounds (wayBy p parents table own m) hops (from packets) .slots
+
+-- the plan is written: its bytes at the start of the buffer, and behind them what was there
+pub record Filled (plan : List (List ℕ)) (buffer buffer′ : List ℕ) (bytes slots : ℕ) : Type 0 where
+  pub few : length plan ≤ 65535
+  pub made : slots ≡ length plan
+  pub counted : bytes ≡ length (planBytes plan)
+  pub wrote : buffer′ ≡ front buffer (planBytes plan)

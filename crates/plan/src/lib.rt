@@ -2,7 +2,7 @@
 ghost use mathlib.Core.Path.{_≡_};
 ghost use mathlib.Core.Bool.{Bool, true, false, cond, _||_, _&&_};
 ghost use mathlib.Core.List.{List, [], _∷_, _++_};
-ghost use Prim.Native.Nat.{ℕ, _+_, _*_, _≤_, _<_};
+ghost use Prim.Native.Nat.{ℕ, _+_, _-_, _*_, _≤_, _<_};
 ghost use lib.Dec.{eqb};
 ghost use lib.ListN.{length, getD, drop, take};
 ghost use Rattle.meaning.specs.Words.{tab, places, probesThat};
@@ -11,7 +11,8 @@ ghost use Rattle.meaning.specs.Conflict.{entry};
 ghost use Rattle.meaning.specs.Rounds.{joined, senders, hop, moved, outside, rounds};
 ghost use Rattle.meaning.proofs.Moving.{weigh, Sender};
 ghost use Rattle.plan.specs.Turn.{blockedBy, mayFor, Considered, Joining, Written, nobody, Chosen, Ready, Turned, turnSlot};
-ghost use Rattle.plan.specs.Going.{wayBy, from, roundOf, Going};
+ghost use Rattle.plan.specs.Going.{wayBy, from, roundOf, Going, slotsBy, Filled};
+ghost use Rattle.meaning.specs.Yard.{levelBy};
 use meaning::Colour;
 
 // What was written into the rest of a buffer.
@@ -273,4 +274,45 @@ fn run(
         r += 1;
     }
     Made { bytes: at, slots }
+}
+
+// The packets, as wide as what a node may come to hold.
+fn wide(packets: [u8; 65]) -> [u16; 65]
+    ensures { λ r. ⌜ r ≡ packets ⌝ }
+{
+    let mut held = [0u16; 65];
+    let mut i = 0;
+    while i < 65 {
+        held[i] = packets[i] as u16;
+        i += 1;
+    }
+    held
+}
+
+// Writes the plan: its slots behind two bytes, and then their number into those.
+fn fill(
+    p: u8,
+    parents: [u8; 65],
+    packets: [u8; 65],
+    table: [[bool; 65]; 65],
+    own: [u8; 65],
+    m: u8,
+    hops: u32,
+    buf: &mut [u8],
+) -> Made
+    requires two { ⌜ 2 ≤ length (now buf) ⌝ }
+    requires ready { ⌜ Ready p (λ u. getD parents u 0) packets (length (now buf) - 2) ⌝ }
+    requires few { ⌜ weigh (levelBy p (λ u. getD parents u 0)) packets ≤ 65535 ⌝ }
+    ensures { λ r. ⌜ Filled (slotsBy p parents table own m hops packets) (now (buf .entry)) (now (buf .exit)) (r .bytes) (r .slots) ⌝ }
+{
+    let mut held = wide(packets);
+    let made = run(p, &parents, &table, &own, m, hops, &mut held, &mut buf[2..]);
+    let bytes = made.bytes;
+    let slots = made.slots;
+    buf[0] = (slots / 256 % 256) as u8;
+    buf[1] = (slots % 256) as u8;
+    Made {
+        bytes: bytes + 2,
+        slots,
+    }
 }

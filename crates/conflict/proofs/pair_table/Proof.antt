@@ -1,0 +1,73 @@
+-- `conflict::pair_table` meets its contract. The invariant: the table is made of the records passed.
+-- Assumes nothing.
+use Prim.Native.Nat.{_≤_, _-_}
+use mathlib.Core.Path.{_∙_, _≡_}
+use native.Mathlib.Omega.{arith}
+use borrow.Author.Needs.{needs}
+use Rattle.meaning.specs.Sheet.{interfere}
+use Rattle.meaning.specs.Conflict.{tableOf}
+use Rattle.conflict.proofs.Entries.{no-record}
+use Rattle.conflict.proofs.Tables.{no-marks, record-marked}
+use Rattle.conflict.proofs.pair_table.Statement.{statement}
+use Rattle.conflict.proofs.pair_table.Tie as tie
+
+abbrev Inv-loop : tie.InvT-loop
+Inv-loop records q t₀ n k₀ t k = (k ≤ q) × (t ≡ tableOf (interfere records k))
+
+abbrev μ-loop : tie.MeasureT-loop
+μ-loop records q t₀ n k₀ t k = q - k
+
+loop-holds : tie.Need-loop-holds Inv-loop μ-loop
+loop-holds c = (omega arith, no-marks (interfere (c .before .args .records .now) 0) (λ x y. no-record (c .before .args .records .now) x y))
+
+mul-byte-at : tie.Need-mul-byte-at Inv-loop μ-loop
+mul-byte-at c = search needs
+
+byte-at-requires : tie.Need-byte-at-requires Inv-loop μ-loop
+byte-at-requires c κs = search needs
+
+mul-byte-at-2 : tie.Need-mul-byte-at-2 Inv-loop μ-loop
+mul-byte-at-2 c = search needs
+
+add-byte-at : tie.Need-add-byte-at Inv-loop μ-loop
+add-byte-at c = search needs
+
+byte-at-requires-2 : tie.Need-byte-at-requires-2 Inv-loop μ-loop
+byte-at-requires-2 c κs = search needs
+
+mark-requires : tie.Need-mark-requires Inv-loop μ-loop
+mark-requires c κs = search needs
+
+mark-requires-2 : tie.Need-mark-requires-2 Inv-loop μ-loop
+mark-requires-2 c κs = search needs
+
+add-k : tie.Need-add-k Inv-loop μ-loop
+add-k c = search needs
+
+loop-less : tie.Need-loop-less Inv-loop μ-loop
+loop-less c = search needs
+
+loop-again : tie.Need-loop-again Inv-loop μ-loop
+loop-again c = (omega arith, c .mark2 .ensures ∙ cc (record-marked (c .before .before .before .before .before .before .before .before .before .args .records .now) (c .before .before .before .before .before .before .before .loop .k)))
+
+returns : tie.Need-returns Inv-loop μ-loop
+returns c = let end : c .before .loop .k ≡ c .before .before .before .args .q = omega arith in rw end at (c .before .loop .inv .1)
+
+pub pair-table-spec : {M : Type 1} → statement M
+pair-table-spec =
+    tie.close
+    (tie.spec
+    Inv-loop
+    μ-loop
+    loop-holds
+    mul-byte-at
+    byte-at-requires
+    mul-byte-at-2
+    add-byte-at
+    byte-at-requires-2
+    mark-requires
+    mark-requires-2
+    add-k
+    loop-less
+    loop-again
+    returns)

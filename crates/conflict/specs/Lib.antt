@@ -1,0 +1,3 @@
+-- What the private functions' contracts cite.
+pub mod Marks
+pub mod Given

@@ -1,0 +1,103 @@
+-- The whole plan: never more slots than hops, and its number in front of its slots.
+-- Assumes nothing.
+use mathlib.Core.Path.{_≡_, refl, sym, ap, ap₂, _∙_, subst}
+use mathlib.Core.Bool.{Bool, true, false, cond}
+use mathlib.Core.List.{List, [], _∷_, _++_}
+use Prim.Native.Nat.{ℕ, zero, suc, _+_, _-_, _*_, _/_, _%_, _≤_, _<_}
+use native.Mathlib.Nat.{not-suc-le-zero, le-of-suc-le-suc}
+use native.Mathlib.Omega.{arith}
+use borrow.Rule.Slice.PartMut.{putMid}
+use lib.ListN.{length, getD, take, drop, set, length-append}
+use Rattle.meaning.specs.Words.{forEach}
+use Rattle.meaning.specs.Yard.{levelBy}
+use Rattle.meaning.specs.Plan.{front, slotBytes, planBytes, twoBytes}
+use Rattle.meaning.specs.Rounds.{Progress, Way, holds, outside, moved, recorded, round, rounds, slotFor}
+use Rattle.meaning.proofs.Turns.{forEach-keeps}
+use Rattle.meaning.proofs.Moving.{weigh}
+use Rattle.plan.specs.Turn.{Ready, turnSlot, made}
+use Rattle.plan.specs.Going.{wayBy, from, slotsBy, Going, Filled}
+use Rattle.plan.proofs.Turning.{ready-next, turn-hops}
+use Rattle.plan.proofs.Going.{recorded-made, put-behind}
+
+made-most : (slot : List ℕ) → length (made slot) ≤ length slot
+made-most [] = omega arith
+made-most (v ∷ slot) = omega arith
+
+module _ (p : ℕ) (parents : List ℕ) (table : List (List Bool)) (own : List ℕ) (m : ℕ) where
+  abbrev way : Way
+  way = wayBy p parents table own m
+
+  abbrev energy : List ℕ → ℕ
+  energy held = weigh (levelBy p (way .parent)) held
+
+  -- a yard to plan, with `all` hops to make: each slot made has taken one of them at least
+  record Spent (all : ℕ) (now : Progress) : Type 0 where
+    ready : Ready p (way .parent) (now .held) (2 * energy (now .held))
+    fewer : length (now .slots) + energy (now .held) ≤ all
+
+  ready-own : (held : List ℕ) (room : ℕ) → Ready p (way .parent) held room → Ready p (way .parent) held (2 * energy held)
+  ready-own held room r = record { small = r .small; long = r .long; few = r .few; up = r .up; fits = omega arith }
+
+  spent-turn : (all s : ℕ) (now : Progress) → Spent all now → Spent all (recorded (way .parent) (slotFor way s (holds (now .held))) now)
+  unfolding turnSlot
+  spent-turn all s now spent =
+      subst (λ (then : Progress). Spent all then) (sym (recorded-made (way .parent) slot now))
+      (record {
+        ready = ready-own (moved (way .parent) slot (now .held)) _ (ready-next p (way .parent) (now .held) (2 * energy (now .held)) (spent .ready) (way .relation) (λ v. getD own v 0) s);
+        fewer =
+            omega (
+              arith,
+              spent .fewer,
+              made-most slot,
+              length-append (now .slots) (made slot),
+              turn-hops p (way .parent) (now .held) (2 * energy (now .held)) (spent .ready) (way .relation) (λ v. getD own v 0) s,
+            );
+      })
+    where
+      slot : List ℕ
+      slot = turnSlot p (way .relation) (λ v. getD own v 0) s (now .held)
+
+  spent-round : (all : ℕ) (now : Progress) → Spent all now → Spent all (round way now)
+  unfolding round
+  spent-round all now spent =
+      forEach-keeps (Spent all) m (λ s then. recorded (way .parent) (slotFor way (s + 1) (holds (then .held))) then) now spent
+      (λ s _ then h. spent-turn all (s + 1) then h)
+
+  -- a plan has no more slots than hops
+  pub slots-most : (packets : List ℕ) (room hops : ℕ) → Ready p (way .parent) packets room → length (slotsBy p parents table own m hops packets) ≤ energy packets
+  unfolding rounds
+  slots-most packets room hops ready =
+      omega (
+        arith,
+        forEach-keeps (Spent (energy packets)) hops (λ _ now. cond (outside p (now .held)) (round way now) now) (from packets)
+            (record { ready = ready-own packets room ready; fewer = omega arith })
+            (λ _ _ now h. go (outside p (now .held)) now h) .fewer,
+      )
+    where
+      go : (b : Bool) (now : Progress) → Spent (energy packets) now → Spent (energy packets) (cond b (round way now) now)
+      go true now h = spent-round (energy packets) now h
+      go false now h = h
+
+-- the number of slots, in two bytes, in front of them
+pub two-in-front : (d part bytes : List ℕ) (hi lo : ℕ) → 2 ≤ length d → part ≡ front (drop 2 d) bytes
+    → set (set (putMid 2 (length d - 2) d part) 0 hi) 1 lo ≡ front d (hi ∷ lo ∷ bytes)
+two-in-front [] part bytes hi lo h e = absurd (not-suc-le-zero h)
+two-in-front (a ∷ []) part bytes hi lo h e = absurd (not-suc-le-zero (le-of-suc-le-suc h))
+two-in-front (a ∷ b ∷ d) part bytes hi lo h e =
+    ap (λ (l : List ℕ). set (set l 0 hi) 1 lo) (put-behind (a ∷ b ∷ d) part 2 (omega arith)) ∙ ap (λ (l : List ℕ). hi ∷ lo ∷ l) e
+
+pub filled : (p : ℕ) (parent : ℕ → ℕ) (now : Progress) (held d part : List ℕ) (bytes slots : ℕ) → 2 ≤ length d → length (now .slots) ≤ 65535
+    → Going p parent now held (drop 2 d) part bytes slots
+    → Filled (now .slots) d (set (set (putMid 2 (length d - 2) d part) 0 (slots / 256 % 256)) 1 (slots % 256)) (bytes + 2) slots
+filled p parent now held d part bytes slots h few going =
+    record {
+      few = few;
+      made = going .made;
+      counted = omega (arith, going .counted);
+      wrote =
+          two-in-front d part (slotBytes (now .slots)) (slots / 256 % 256) (slots % 256) h (going .wrote)
+          ∙ ap₂ (λ (hi lo : ℕ). front d (hi ∷ lo ∷ slotBytes (now .slots))) high (ap (λ (n : ℕ). n % 256) (going .made));
+    }
+  where
+    high : slots / 256 % 256 ≡ length (now .slots) / 256
+    high = omega (arith, going .made)
