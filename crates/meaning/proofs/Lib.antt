@@ -4,4 +4,5 @@ pub mod Walk
 pub mod Moving
 pub mod Slots
 pub mod Colouring
+pub mod Conflicting
 pub mod Yards
