@@ -5,4 +5,6 @@ pub mod Moving
 pub mod Slots
 pub mod Colouring
 pub mod Conflicting
+pub mod Accepted
+pub mod Grounds
 pub mod Yards

@@ -3,17 +3,16 @@
 -- Assumes nothing.
 use mathlib.Core.Path.{_≡_, refl, sym, ap, ap₂, _∙_, subst}
 use mathlib.Core.List.{List, [], _∷_, _++_}
-use mathlib.Core.Logic.{_⊎_, inl, inr, _≢_, ⊎-elim}
+use mathlib.Core.Logic.{_≢_, ⊎-elim}
 use Prim.Native.Nat.{ℕ, zero, suc, _+_, _-_, _*_, _≤_, _<_}
 use native.Mathlib.Nat.{not-suc-le-zero, suc-mul}
 use native.Mathlib.Numerals.{add-one}
-use native.Mathlib.Decide.{ℕ-discrete}
 use native.Mathlib.Omega.{arith}
 use lib.ListN.{length, getD, set, length-set}
 use lib.Seq.{getD-set-same, getD-set-other}
 use Rattle.meaning.specs.Words.{sum, places}
 use Rattle.meaning.specs.Rounds.{hop, moved}
-use Rattle.meaning.proofs.Turns.{below-or-last, sum-same}
+use Rattle.meaning.proofs.Turns.{below-or-last, same-or-other, sum-same}
 
 -- what the nodes hold, each packet weighed by where it is
 abbrev pub weigh : (ℕ → ℕ) → List ℕ → ℕ
@@ -64,13 +63,6 @@ weigh-hop w parent v held hl hv hq holds =
 
 pub length-hop : (parent : ℕ → ℕ) (v : ℕ) (held : List ℕ) → length (hop parent v held) ≡ length held
 length-hop parent v held = simp length-set
-
-pub same-or-other : (a b : ℕ) → (a ≡ b) ⊎ (a ≢ b)
-same-or-other a b = go (ℕ-discrete a b)
-  where
-    go : Dec (a ≡ b) → (a ≡ b) ⊎ (a ≢ b)
-    go (yes e) = inl e
-    go (no e) = inr e
 
 -- nobody else has less after a hop
 pub hop-keeps : (parent : ℕ → ℕ) (v u : ℕ) (held : List ℕ) → length held ≡ places → u ≢ v → u < places → getD held u 0 ≤ getD (hop parent v held) u 0

@@ -12,8 +12,8 @@ use lib.Seq.{getD-set-other}
 use lib.Dec.{eqb}
 use Rattle.meaning.specs.Words.{tab, places, probesThat, eachProbe, someProbe}
 use Rattle.meaning.specs.Rounds.{joins, joined, clashes, senders, slotOf, ownersByProbe, ownersByLevel}
-use Rattle.meaning.proofs.Turns.{forEach-keeps, getD-tab, length-tab}
-use Rattle.meaning.proofs.Moving.{Rising, Each, same-or-other}
+use Rattle.meaning.proofs.Turns.{forEach-keeps, getD-tab, length-tab, same-or-other}
+use Rattle.meaning.proofs.Moving.{Rising, Each}
 
 pub true-or-false : (b : Bool) → (b ≡ true) ⊎ (b ≡ false)
 true-or-false true = mathlib.Core.Logic.inl refl

@@ -3,14 +3,14 @@
 use mathlib.Core.Path.{_≡_, refl, sym, ap, ap₂, _∙_, subst}
 use mathlib.Core.Bool.{Bool, true, false, cond, _||_, or-true}
 use mathlib.Core.List.{List, [], _∷_, _++_}
-use mathlib.Core.Logic.{_⊎_, inl, inr, ⊎-elim}
+use mathlib.Core.Logic.{_⊎_, inl, inr, _≢_, ⊎-elim}
 use Prim.Native.Nat.{ℕ, zero, suc, _+_, _-_, _*_, _≤_, _<_, max}
 use native.Mathlib.Nat.{not-suc-le-zero, zero-mul, suc-mul}
 use native.Mathlib.Numerals.{add-one}
-use native.Mathlib.Decide.{decLt}
+use native.Mathlib.Decide.{decLt, ℕ-discrete}
 use native.Mathlib.Omega.{arith}
-use lib.ListN.{length, getD, take, set, length-append, List·getD-append, List·getD-eq-default}
-use lib.Seq.{getD-append-seam, take-suc-set, take-all, ext-getD}
+use lib.ListN.{length, getD, take, set, length-append, length-set, List·getD-append, List·getD-eq-default}
+use lib.Seq.{getD-append-seam, getD-set-same, getD-set-other, take-suc-set, take-all, ext-getD}
 use Rattle.meaning.specs.Words.{forEach, some, sum, most, tab, places}
 
 -- a number below n + 1 is below n or is n
@@ -20,6 +20,14 @@ below-or-last k n h = go (decLt k n)
     go : Dec (k < n) → (k < n) ⊎ (k ≡ n)
     go (yes l) = inl l
     go (no l) = inr (omega arith)
+
+-- two numbers are the same or not
+pub same-or-other : (a b : ℕ) → (a ≡ b) ⊎ (a ≢ b)
+same-or-other a b = go (ℕ-discrete a b)
+  where
+    go : Dec (a ≡ b) → (a ≡ b) ⊎ (a ≢ b)
+    go (yes e) = inl e
+    go (no e) = inr e
 
 -- turn i + 1 comes after turn i
 pub forEach-one : {A : Type 0} (i : ℕ) (step : ℕ → A → A) (start : A) → forEach (i + 1) step start ≡ step i (forEach i step start)
@@ -173,3 +181,19 @@ pub tab-of : {A : Type 0} (n : ℕ) (l : List A) (d : A) → length l ≡ n → 
 tab-of n l d h =
     ext-getD d (tab n (λ k. getD l k d)) l (length-tab n (λ k. getD l k d) ∙ sym h)
     (λ i hi. getD-tab n (λ k. getD l k d) i d (subst (λ (m : ℕ). i < m) (length-tab n (λ k. getD l k d)) hi))
+
+-- one place of such a list changed
+pub set-tab : {A : Type 0} (n : ℕ) (f g : ℕ → A) (i : ℕ) (a d : A) → i < n → g i ≡ a → ((j : ℕ) → (j ≡ i → ⊥) → g j ≡ f j) → set (tab n f) i a ≡ tab n g
+set-tab n f g i a d h here other =
+    ext-getD d (set (tab n f) i a) (tab n g) (length-set (tab n f) i a ∙ length-tab n f ∙ sym (length-tab n g))
+    (λ j hj.
+    let within : j < n = subst (λ (m : ℕ). j < m) (length-set (tab n f) i a ∙ length-tab n f) hj in
+    ⊎-elim
+    (λ (e : j ≡ i).
+    ap (λ (k : ℕ). getD (set (tab n f) i a) k d) e ∙ getD-set-same (tab n f) i a d (subst (λ (m : ℕ). i < m) (sym (length-tab n f)) h)
+    ∙ sym here
+    ∙ ap g (sym e)
+    ∙ sym (getD-tab n g j d within))
+    (λ (e : j ≡ i → ⊥).
+    getD-set-other (tab n f) i j a d e ∙ getD-tab n f j d within ∙ sym (other j e) ∙ sym (getD-tab n g j d within))
+    (same-or-other j i))

@@ -16,7 +16,7 @@ use Rattle.meaning.specs.Plan.{slotBytes, roomFor}
 use Rattle.meaning.specs.Conflict.{disturb, conflict, conflictTable}
 use Rattle.meaning.specs.Colour.{smallestFree, nextOf, colouredBy, probeColours, levelsConflict, levels, depth, levelColours}
 use Rattle.meaning.specs.Rounds.{Way, joined, ownersByProbe, ownersByLevel, slotOf, moved, recorded, round, rounds, byProbe, byLevel, slotsOf}
-use Rattle.meaning.specs.Answer.{_then_, inOrder, probeTest, walkTest, pairTest, sheetTest, planTest, planAnswer, planBuffer}
+use Rattle.meaning.specs.Answer.{_then_, inOrder, probeTest, walkTest, pairTest, countsTest, sheetTest, planTest, planAnswer, planBuffer}
 use Rattle.meaning.specs.Judge.{slotTest, slotJudged, slotsJudged, planJudged, judge, choice, handedBack}
 use Rattle.meaning.specs.Lister.{text, decimal, sendersText, slotLines, sheetListed, listing}
 
@@ -146,7 +146,7 @@ unfolding digit pairs hex planner verdict same true-row all-true A A-with-a-pair
     forEach some sum most tab probesThat reaches climb parentOf packetsOf levelOf hops allPackets heaviest interfere slotBytes
     disturb conflict conflictTable smallestFree nextOf colouredBy probeColours levelsConflict levels depth levelColours
     joined ownersByProbe ownersByLevel slotOf moved recorded round rounds byProbe byLevel slotsOf
-    _then_ inOrder probeTest walkTest pairTest sheetTest planTest planAnswer planBuffer
+    _then_ inOrder probeTest walkTest pairTest countsTest sheetTest planTest planAnswer planBuffer
     slotTest slotJudged slotsJudged planJudged judge choice
     text decimal sendersText slotLines sheetListed
 proved-yards = tt

@@ -54,15 +54,20 @@ pairTest records p k =
     given 7 (k + 1) (eqb (firstOf records k) 0 || leb (secondOf records k) (firstOf records k) || ltb (p + 1) (secondOf records k))
     then given 8 (k + 1) (ltb 0 k && not (above records k))
 
--- "Numbers returned": sheet tests run in this order
-unfoldable pub sheetTest : List ℕ → Outcome
-sheetTest s =
+-- "Numbers returned": sheet tests run in this order; first those of the counts: empty, p, section one and q present, q, pairs present, bytes behind
+unfoldable pub countsTest : List ℕ → Outcome
+countsTest s =
     given 1 0 (eqb (length s) 0)
     then given 2 0 (ltb 63 (probeCount s))
     then given 1 0 (ltb (length s) (pairCountAt s + 2))
     then given 2 0 (ltb (probeCount s * (probeCount s + 1) / 2) (pairCount s))
     then given 1 0 (ltb (length s) (sheetLength s))
     then given 3 0 (ltb (sheetLength s) (length s))
+
+-- "Numbers returned": then probes in rising number; then the first probe that never arrives; then pairs in order
+unfoldable pub sheetTest : List ℕ → Outcome
+sheetTest s =
+    countsTest s
     then inOrder (probeCount s) (probeTest (probeRecords s) (probeCount s))
     then inOrder (probeCount s) (walkTest (parentOf s) (probeCount s))
     then inOrder (pairCount s) (pairTest (pairRecords s) (probeCount s))

@@ -1,5 +1,6 @@
 // The yard's own numbers and answers. Their meaning, after document 01, stands in specs/.
 ghost use mathlib.Core.Path.{_≡_};
+ghost use lib.ListN.{getD};
 ghost use Rattle.meaning.specs.Answer.{refusedPlan};
 
 // A probe's number, 2 to 64.
@@ -51,4 +52,11 @@ pub fn refused_plan(outcome: Outcome) -> Planned
         slots: 0,
         bytes: 0,
     }
+}
+
+// What stands at a place of a list, 0 past its end.
+pub fn number_at(list: &[u8], at: usize) -> u8
+    ensures { λ r. ⌜ r ≡ getD (now (list .entry)) at 0 ⌝ }
+{
+    if at < list.len() { list[at] } else { 0 }
 }

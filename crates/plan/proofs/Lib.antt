@@ -6,3 +6,6 @@ pub mod Sending
 pub mod Turning
 pub mod Going
 pub mod Filling
+pub mod Owners
+pub mod Preparing
+pub mod Answering

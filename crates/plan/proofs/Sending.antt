@@ -10,7 +10,8 @@ use lib.ListN.{length, getD, set}
 use lib.Seq.{getD-set-same, getD-set-other}
 use Rattle.meaning.specs.Words.{places, probesThat}
 use Rattle.meaning.specs.Rounds.{hop, moved}
-use Rattle.meaning.proofs.Moving.{weigh, Each, Rising, Sender, moved-append, moved-keeps, length-moved, kept, in-all, same-or-other}
+use Rattle.meaning.proofs.Turns.{same-or-other}
+use Rattle.meaning.proofs.Moving.{weigh, Each, Rising, Sender, moved-append, moved-keeps, length-moved, kept, in-all}
 use Rattle.meaning.proofs.Slots.{each-probe, rising-probes}
 use Rattle.plan.proofs.Writing.{probes-put, probes-pass}
 

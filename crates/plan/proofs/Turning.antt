@@ -15,8 +15,8 @@ use lib.Seq.{getD-set-same, getD-set-other}
 use Rattle.meaning.specs.Words.{forEach, some, tab, places, probesThat, someProbe}
 use Rattle.meaning.specs.Plan.{front, slotBytes}
 use Rattle.meaning.specs.Rounds.{holds, clashes, joins, joined, senders, slotOf, ownersByLevel, moved}
-use Rattle.meaning.proofs.Turns.{below-or-last, forEach-keeps, forEach-one, some-found, some-none, none-some, some-where, some-one}
-use Rattle.meaning.proofs.Moving.{weigh, weighAll, Each, Rising, Sender, weigh-moved, kept, length-moved, same-or-other}
+use Rattle.meaning.proofs.Turns.{below-or-last, forEach-keeps, forEach-one, some-found, some-none, none-some, some-where, some-one, same-or-other}
+use Rattle.meaning.proofs.Moving.{weigh, weighAll, Each, Rising, Sender, weigh-moved, kept, length-moved}
 use Rattle.meaning.proofs.Slots.{Only, only-joined, each-probe, each-slot, each-so, rising-slot, rising-probes, and-left, and-right, never, true-or-false}
 use Rattle.plan.specs.Turn.{blockedBy, mayFor, anyTaken, Joining, nobody, Chosen, Ready, Written, Turned, turnSlot, made}
 use Rattle.meaning.specs.Yard.{levelBy}

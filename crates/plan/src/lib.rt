@@ -3,17 +3,31 @@ ghost use mathlib.Core.Path.{_≡_};
 ghost use mathlib.Core.Bool.{Bool, true, false, cond, _||_, _&&_};
 ghost use mathlib.Core.List.{List, [], _∷_, _++_};
 ghost use Prim.Native.Nat.{ℕ, _+_, _-_, _*_, _≤_, _<_};
-ghost use lib.Dec.{eqb};
+ghost use lib.Dec.{eqb, ltb};
 ghost use lib.ListN.{length, getD, drop, take};
 ghost use Rattle.meaning.specs.Words.{tab, places, probesThat};
-ghost use Rattle.meaning.specs.Plan.{front};
+ghost use Rattle.meaning.specs.Plan.{front, roomFor};
+ghost use Rattle.meaning.specs.Answer.{given, _then_, planAnswer, planBuffer};
 ghost use Rattle.meaning.specs.Conflict.{entry};
-ghost use Rattle.meaning.specs.Rounds.{joined, senders, hop, moved, outside, rounds};
+ghost use Rattle.meaning.specs.Rounds.{joined, senders, hop, moved, outside, rounds, byProbe, byLevel};
 ghost use Rattle.meaning.proofs.Moving.{weigh, Sender};
 ghost use Rattle.plan.specs.Turn.{blockedBy, mayFor, Considered, Joining, Written, nobody, Chosen, Ready, Turned, turnSlot};
 ghost use Rattle.plan.specs.Going.{wayBy, from, roundOf, Going, slotsBy, Filled};
+ghost use Rattle.plan.specs.Answered.{Prepared, Finished};
 ghost use Rattle.meaning.specs.Yard.{levelBy};
 use meaning::Colour;
+use meaning::Outcome;
+use meaning::Planned;
+
+// What a planner stands on, once the sheet and the room have passed.
+struct Ground {
+    outcome: Outcome,
+    probes: u8,
+    parents: [u8; 65],
+    packets: [u8; 65],
+    levels: [u8; 65],
+    hops: u32,
+}
 
 // What was written into the rest of a buffer.
 struct Made {
@@ -315,4 +329,136 @@ fn fill(
         bytes: bytes + 2,
         slots,
     }
+}
+
+// The room is tested where the sheet has passed.
+fn room_test(outcome: Outcome, room: usize, hops: u32) -> Outcome
+    ensures { λ r. ⌜ r ≡ (outcome then given 9 0 (ltb room (roomFor hops))) ⌝ }
+{
+    if outcome.number != 0 {
+        return outcome;
+    }
+    if room < 2 + 2 * (hops as usize) {
+        return Outcome {
+            number: 9,
+            place: 0,
+        };
+    }
+    Outcome {
+        number: 0,
+        place: 0,
+    }
+}
+
+// Reads the sheet and tests the room.
+fn prepare(sheet: &[u8], room: usize) -> Ground
+    ensures { λ r. ⌜ Prepared (now (sheet .entry)) room r ⌝ }
+{
+    let yard = sheet::read(sheet);
+    let probes = yard.probes;
+    let parents = yard.parents;
+    let packets = yard.packets;
+    let levels = walk::levels(&parents, probes);
+    let hops = walk::hops(probes, &packets, &levels);
+    let outcome = room_test(yard.outcome, room, hops);
+    Ground {
+        outcome,
+        probes,
+        parents,
+        packets,
+        levels,
+        hops,
+    }
+}
+
+// Fills the buffer with the plan and answers for it.
+fn finish(ground: Ground, table: [[bool; 65]; 65], own: [u8; 65], m: u8, buf: &mut [u8]) -> Planned
+    requires two { ⌜ 2 ≤ length (now buf) ⌝ }
+    requires ready { ⌜ Ready (ground .probes) (λ u. getD (ground .parents) u 0) (ground .packets) (length (now buf) - 2) ⌝ }
+    requires few { ⌜ weigh (levelBy (ground .probes) (λ u. getD (ground .parents) u 0)) (ground .packets) ≤ 65535 ⌝ }
+    ensures { λ r. ⌜ Finished (slotsBy (ground .probes) (ground .parents) table own m (ground .hops) (ground .packets)) m (now (buf .entry)) (now (buf .exit)) r ⌝ }
+{
+    let p = ground.probes;
+    let parents = ground.parents;
+    let packets = ground.packets;
+    let made = fill(p, parents, packets, table, own, m, ground.hops, buf);
+    let slots = made.slots;
+    if 65535 < slots {
+        return meaning::refused_plan(Outcome {
+            number: 10,
+            place: 0,
+        });
+    }
+    Planned {
+        outcome: Outcome {
+            number: 0,
+            place: 0,
+        },
+        colours: m,
+        slots: slots as u16,
+        bytes: made.bytes,
+    }
+}
+
+// Each probe's colour, where levels are coloured: that of its level.
+fn colours_by_level(levels: [u8; 65], colours: [u8; 65]) -> [u8; 65]
+    ensures { λ r. ⌜ r ≡ tab places (λ v. getD colours (getD levels v 0) 0) ⌝ }
+{
+    let mut own = [0u8; 65];
+    let mut v = 0;
+    while v < 65 {
+        own[v] = meaning::number_at(&colours, levels[v] as usize);
+        v += 1;
+    }
+    own
+}
+
+// The plan by probe of any sheet, into any buffer, or a numbered refusal.
+pub fn by_probe(sheet: &[u8], buf: &mut [u8]) -> Planned
+    ensures answer { λ r. ⌜ r ≡ planAnswer (now (sheet .entry)) (byProbe (now (sheet .entry))) (length (now (buf .entry))) ⌝ }
+    ensures buffer { λ _. ⌜ now (buf .exit) ≡ planBuffer (now (sheet .entry)) (byProbe (now (sheet .entry))) (now (buf .entry)) ⌝ }
+{
+    let ground = prepare(sheet, buf.len());
+    let outcome = ground.outcome;
+    if outcome.number != 0 {
+        return meaning::refused_plan(outcome);
+    }
+    let p = ground.probes;
+    let parents = ground.parents;
+    let table = conflict::table(
+        p,
+        parents,
+        sheet::pair_records(sheet),
+        sheet::pair_count(sheet),
+    );
+    let own = colour::colouring(table, 2, p);
+    let m = colour::used(own);
+    finish(ground, table, own, m, buf)
+}
+
+// The plan by level of any sheet, into any buffer, or a numbered refusal.
+pub fn by_level(sheet: &[u8], buf: &mut [u8]) -> Planned
+    ensures answer { λ r. ⌜ r ≡ planAnswer (now (sheet .entry)) (byLevel (now (sheet .entry))) (length (now (buf .entry))) ⌝ }
+    ensures buffer { λ _. ⌜ now (buf .exit) ≡ planBuffer (now (sheet .entry)) (byLevel (now (sheet .entry))) (now (buf .entry)) ⌝ }
+{
+    let ground = prepare(sheet, buf.len());
+    let outcome = ground.outcome;
+    if outcome.number != 0 {
+        return meaning::refused_plan(outcome);
+    }
+    let p = ground.probes;
+    let parents = ground.parents;
+    let levels = ground.levels;
+    let table = conflict::table(
+        p,
+        parents,
+        sheet::pair_records(sheet),
+        sheet::pair_count(sheet),
+    );
+    let depth = walk::depth(p, &levels);
+    let above = conflict::level_table(p, levels, table);
+    let colours = colour::colouring(above, 1, depth.0);
+    let own = colours_by_level(levels, colours);
+    let m = colour::used(colours);
+    finish(ground, table, own, m, buf)
 }

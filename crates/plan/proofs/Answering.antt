@@ -1,0 +1,249 @@
+-- A planner's whole answer: refused as the tests say, or the plan of the definitions, which the code makes in a way of its own.
+-- Assumes nothing.
+use mathlib.Core.Path.{_≡_, refl, sym, ap, ap₂, _∙_, subst, subst₃, fun-ext}
+use mathlib.Core.Bool.{Bool, true, false, cond}
+use mathlib.Core.List.{List, []}
+use mathlib.Core.Logic.{_≢_}
+use Prim.Native.Nat.{ℕ, zero, suc, _+_, _-_, _*_, _≤_, _<_, max}
+use native.Mathlib.Omega.{arith}
+use borrow.Author.Tests.{eq-eqb, ne-eqb, le-ltb, ltb-false}
+use lib.Dec.{eqb, ltb}
+use lib.ListN.{length, getD}
+use Rattle.meaning.specs.declared.Outcome.{Outcome}
+use Rattle.meaning.specs.declared.Planned.{Planned}
+use Rattle.meaning.specs.declared.Level.{Level}
+use Rattle.plan.specs.declared.Ground.{Ground}
+use Rattle.meaning.specs.Words.{most, mostProbes, tab, places}
+use Rattle.meaning.specs.Yard.{isProbe, levelBy}
+use Rattle.meaning.specs.Sheet.{probeCount, parentOf, packetsOf, levelOf, hops, pairRecords, pairCount, interfere}
+use Rattle.meaning.specs.Plan.{planBytes, roomFor, front}
+use Rattle.meaning.specs.Conflict.{conflict, tableOf, entry, conflictTable}
+use Rattle.meaning.specs.Colour.{colouring, coloursUsed, probeColours, levels, depth, levelColours, levelsConflict}
+use Rattle.meaning.specs.Rounds.{Progress, Way, ownersByProbe, ownersByLevel, rounds, before, byProbe, byLevel, slotsOf}
+use Rattle.meaning.specs.Answer.{accepted, isAccepted, given, _then_, sheetTest, planTest, planAnswer, planBuffer, refusedPlan}
+use Rattle.meaning.proofs.Turns.{getD-tab, length-tab}
+use Rattle.meaning.proofs.Walk.{probe-yes, not-both}
+use Rattle.meaning.proofs.Moving.{weigh}
+use Rattle.meaning.proofs.Colouring.{Conflicts, Proper, proper}
+use Rattle.meaning.proofs.Conflicting.{interfere-sym, conflicts, entry-conflict}
+use Rattle.meaning.proofs.Accepted.{then-stays, then-goes, then-assoc, then-accepted, given-accepted}
+use Rattle.meaning.proofs.Grounds.{few-probes, parent-read, packets-read, parent-node, level-up, few-packets, weigh-hops, few-hops}
+use Rattle.plan.specs.Turn.{Ready}
+use Rattle.plan.specs.Going.{wayBy, from, slotsBy}
+use Rattle.plan.specs.Answered.{groundTest, Standing, Prepared, Finished}
+use Rattle.plan.proofs.Owners.{one-by-one, owners-same, wayOf, rounds-same}
+
+-- the definitions opened
+probe-colours : (s : List ℕ) → colouring (entry (conflictTable s)) 2 (probeCount s) ≡ probeColours s
+unfolding probeColours
+probe-colours s = refl
+
+level-colours : (s : List ℕ) → colouring (entry (tableOf (levelsConflict (probeCount s) (λ v. getD (levels s) v 0) (entry (conflictTable s))))) 1 (depth s) ≡ levelColours s
+unfolding levelColours
+level-colours s = refl
+
+most-same : (n : ℕ) (f g : ℕ → ℕ) → ((k : ℕ) → k < n → f k ≡ g k) → most n f ≡ most n g
+unfolding most
+most-same zero f g e = refl
+most-same (suc n) f g e = ap₂ max (most-same n f g (λ k h. e k (omega arith))) (e n (omega arith))
+
+level-read : (s : List ℕ) → isAccepted (sheetTest s) ≡ true → (k : ℕ) → k < probeCount s → getD (levels s) (k + 2) 0 ≡ levelOf s (k + 2)
+unfolding levels
+level-read s yes′ k h = getD-tab places (levelOf s) (k + 2) 0 (omega (arith, few-probes s yes′))
+
+depth-read : (s : List ℕ) → isAccepted (sheetTest s) ≡ true → mostProbes (probeCount s) (λ v. getD (levels s) v 0) ≡ depth s
+unfolding depth
+depth-read s yes′ = most-same (probeCount s) (λ k. getD (levels s) (k + 2) 0) (λ k. levelOf s (k + 2)) (level-read s yes′)
+
+module _ (s buffer : List ℕ) (ground : Ground) (prepared : Prepared s (length buffer) ground) where
+  -- the answer and the buffer afterwards, for any way
+  abbrev Answers : Way → Planned → List ℕ → Type 0
+  Answers way answer buffer′ = (answer ≡ planAnswer s way (length buffer)) × (buffer′ ≡ planBuffer s way buffer)
+
+  abbrev whole-test : Way → Outcome
+  whole-test way = planTest s (length buffer) (slotsOf s way)
+
+  in-two : (way : Way) → whole-test way ≡ (groundTest s (length buffer) then given 10 0 (ltb 65535 (length (slotsOf s way))))
+  unfolding planTest
+  in-two way = sym (then-assoc (sheetTest s) _ _)
+
+  -- a refusal
+  pub refuses : (way : Way) → ground .outcome .number ≢ 0 → Answers way (refusedPlan (ground .outcome)) buffer
+  unfolding planAnswer planBuffer
+  refuses way n = (
+    ap refusedPlan its ∙ sym (ap (λ (b : Bool). cond b (answered way) (refusedPlan (whole-test way))) not-accepted),
+    sym (ap (λ (b : Bool). cond b (front buffer (planBytes (slotsOf s way))) buffer) not-accepted),
+  )
+    where
+      answered : Way → Planned
+      answered w = record { outcome = whole-test w; colours = w .colours; slots = length (slotsOf s w); bytes = length (planBytes (slotsOf s w)) }
+
+      refused : isAccepted (ground .outcome) ≡ false
+      refused = ne-eqb (ground .outcome .number) 0 n
+
+      its : ground .outcome ≡ whole-test way
+      its = prepared .tested ∙ sym (in-two way ∙ then-stays (groundTest s (length buffer)) _ (ap isAccepted (sym (prepared .tested)) ∙ refused))
+
+      not-accepted : isAccepted (whole-test way) ≡ false
+      not-accepted = ap isAccepted (sym its) ∙ refused
+
+  module _ (zero′ : ground .outcome .number ≡ 0) where
+    passed : isAccepted (groundTest s (length buffer)) ≡ true
+    passed = ap isAccepted (sym (prepared .tested)) ∙ eq-eqb (ground .outcome .number) 0 zero′
+
+    pub sheet-passed : isAccepted (sheetTest s) ≡ true
+    sheet-passed = then-accepted (sheetTest s) _ passed .0
+
+    pub standing : Standing s ground
+    standing = prepared .read (eq-eqb (ground .outcome .number) 0 zero′)
+
+    room : roomFor (hops s) ≤ length buffer
+    room = ltb-false (length buffer) (roomFor (hops s)) (given-accepted 9 0 (ltb (length buffer) (roomFor (hops s))) refl (then-accepted (sheetTest s) _ passed .1))
+
+    pub two : 2 ≤ length buffer
+    two = omega (arith, room)
+
+    parent : (λ (u : ℕ). getD (ground .parents) u 0) ≡ parentOf s
+    parent = ap {B = ℕ → ℕ} (λ (l : List ℕ). λ u. getD l u 0) (standing .parents) ∙ parent-read s sheet-passed
+
+    pub ready : Ready (ground .probes) (λ u. getD (ground .parents) u 0) (ground .packets) (length buffer - 2)
+    ready =
+        subst₃ (λ (p : ℕ) (up : ℕ → ℕ) (held : List ℕ). Ready p up held (length buffer - 2)) (sym (standing .probes)) (sym parent) (sym (standing .packets))
+        (record {
+          small = few-probes s sheet-passed;
+          long = length-tab places (packetsOf s);
+          few = few-packets s sheet-passed;
+          up = λ k h. (parent-node s sheet-passed k h, level-up s sheet-passed k h);
+          fits = omega (arith, weigh-hops s sheet-passed, room);
+        })
+
+    pub few : weigh (levelBy (ground .probes) (λ u. getD (ground .parents) u 0)) (ground .packets) ≤ 65535
+    few =
+        subst₃ (λ (p : ℕ) (up : ℕ → ℕ) (held : List ℕ). weigh (levelBy p up) held ≤ 65535) (sym (standing .probes)) (sym parent) (sym (standing .packets))
+        (omega (arith, weigh-hops s sheet-passed, few-hops s sheet-passed))
+
+    -- the code's plan, over what the sheet says
+    over-sheet : (table : List (List Bool)) (own : List ℕ) (m : ℕ)
+        → slotsBy (ground .probes) (ground .parents) table own m (ground .hops) (ground .packets)
+        ≡ rounds (wayOf (probeCount s) (parentOf s) (entry table) m (ownersByLevel (probeCount s) (entry table) (λ v. getD own v 0))) (hops s) (before (packetsOf s)) .slots
+    over-sheet table own m =
+        ap₂ (λ (p : ℕ) (up : ℕ → ℕ). rounds (wayOf p up (entry table) m (ownersByLevel p (entry table) (λ v. getD own v 0))) (ground .hops) (from (ground .packets)) .slots)
+        (standing .probes) parent
+        ∙ ap₂ (λ (n : ℕ) (held : List ℕ). rounds (wayOf (probeCount s) (parentOf s) (entry table) m (ownersByLevel (probeCount s) (entry table) (λ v. getD own v 0))) n (from held) .slots)
+        (standing .hops) (standing .packets)
+
+    -- a plan is written and answered for
+    pub finishes : (way : Way) (plan : List (List ℕ)) (m : ℕ) (buffer′ : List ℕ) (answer : Planned) → plan ≡ slotsOf s way → m ≡ way .colours
+        → Finished plan m buffer buffer′ answer → Answers way answer buffer′
+    unfolding planAnswer planBuffer
+    finishes way plan m buffer′ answer same colours done = (
+      done .answers
+          ∙ (λ i. record { outcome = sym its i; colours = colours i; slots = length (same i); bytes = length (planBytes (same i)) })
+          ∙ sym (ap (λ (b : Bool). cond b (record { outcome = whole-test way; colours = way .colours; slots = length (slotsOf s way); bytes = length (planBytes (slotsOf s way)) }) (refusedPlan (whole-test way))) good),
+      done .wrote ∙ ap (λ (l : List (List ℕ)). front buffer (planBytes l)) same ∙ sym (ap (λ (b : Bool). cond b (front buffer (planBytes (slotsOf s way))) buffer) good),
+    )
+      where
+        its : whole-test way ≡ accepted
+        its =
+            in-two way ∙ then-goes (groundTest s (length buffer)) _ passed
+            ∙ ap (λ (b : Bool). given 10 0 b) (le-ltb 65535 (length (slotsOf s way)) (subst (λ (l : List (List ℕ)). length l ≤ 65535) same (done .few)))
+
+        good : isAccepted (whole-test way) ≡ true
+        good = ap isAccepted its
+
+    module _ (records : List ℕ) (q : ℕ) (table : List (List Bool)) (read : records ≡ pairRecords s) (counted : q ≡ pairCount s)
+        (made : table ≡ tableOf (conflict (ground .probes) (λ v. getD (ground .parents) v 0) (interfere records q))) where
+      pub its-table : table ≡ conflictTable s
+      unfolding conflictTable
+      its-table =
+          made
+          ∙ ap₂ (λ (p : ℕ) (up : ℕ → ℕ). tableOf (conflict p up (interfere records q))) (standing .probes) parent
+          ∙ ap₂ (λ (r : List ℕ) (n : ℕ). tableOf (conflict (probeCount s) (parentOf s) (interfere r n))) read counted
+
+      -- no two probes of one colour conflict, and only probes have colours
+      proper-probes : Proper (entry (conflictTable s)) 2 (probeCount s) (probeColours s)
+      unfolding conflictTable probeColours
+      proper-probes =
+          subst (λ (relation : ℕ → ℕ → Bool). Proper relation 2 (probeCount s) (colouring relation 2 (probeCount s))) (sym as-relation)
+          (proper its 2 (probeCount s) (conflicts (probeCount s) (parentOf s) pair both-ways) (omega (arith, few-probes s sheet-passed)))
+        where
+          pair : ℕ → ℕ → Bool
+          pair = interfere (pairRecords s) (pairCount s)
+
+          both-ways : (x y : ℕ) → pair x y ≡ pair y x
+          both-ways = interfere-sym (pairRecords s) (pairCount s)
+
+          its : ℕ → ℕ → Bool
+          its = conflict (probeCount s) (parentOf s) pair
+
+          as-relation : entry (tableOf its) ≡ its
+          as-relation = fun-ext (λ x. fun-ext (λ y. entry-conflict (probeCount s) (parentOf s) pair both-ways (few-probes s sheet-passed) x y))
+
+      -- by probe: the owners taken one by one are all of them
+      pub by-probe : (own : List ℕ) (m : ℕ) → own ≡ colouring (entry table) 2 (ground .probes) → m ≡ coloursUsed own
+          → (slotsBy (ground .probes) (ground .parents) table own m (ground .hops) (ground .packets) ≡ slotsOf s (byProbe s)) × (m ≡ byProbe s .colours)
+      unfolding slotsOf byProbe
+      by-probe own m coloured used = (
+        over-sheet table own m
+            ∙ ap₂ (λ (t : List (List Bool)) (o : List ℕ). rounds (wayOf (probeCount s) (parentOf s) (entry t) m (ownersByLevel (probeCount s) (entry t) (λ v. getD o v 0))) (hops s) (before (packetsOf s)) .slots) its-table its-own
+            ∙ ap (λ (now : Progress). now .slots)
+            (rounds-same (probeCount s) (parentOf s) (entry (conflictTable s)) m (ownersByLevel (probeCount s) (entry (conflictTable s)) (λ v. getD (probeColours s) v 0))
+            (ownersByProbe (λ v. getD (probeColours s) v 0))
+            (λ c may.
+            one-by-one (probeCount s) (entry (conflictTable s)) (λ v. getD (probeColours s) v 0) (c + 1) may (few-probes s sheet-passed) (omega arith)
+            (proper-probes .apart)
+            (λ v e. proper-probes .outside v (λ low high. not-both (probe-yes (probeCount s) v low (omega arith)) e)))
+            (hops s) (before (packetsOf s)))
+            ∙ ap (λ (n : ℕ). rounds (wayOf (probeCount s) (parentOf s) (entry (conflictTable s)) n (ownersByProbe (λ v. getD (probeColours s) v 0))) (hops s) (before (packetsOf s)) .slots) its-used,
+        its-used,
+      )
+        where
+          its-own : own ≡ probeColours s
+          its-own = coloured ∙ ap₂ (λ (t : List (List Bool)) (p : ℕ). colouring (entry t) 2 p) its-table (standing .probes) ∙ own-colours
+            where
+              own-colours : colouring (entry (conflictTable s)) 2 (probeCount s) ≡ probeColours s
+              own-colours = probe-colours s
+
+          its-used : m ≡ coloursUsed (probeColours s)
+          its-used = used ∙ ap coloursUsed its-own
+
+      -- by level: each probe has the colour of its level
+      pub by-level : (depths : Level) (above : List (List Bool)) (colours own : List ℕ) (m : ℕ)
+          → depths ≡ record { 0 = mostProbes (ground .probes) (λ v. getD (ground .levels) v 0) }
+          → above ≡ tableOf (levelsConflict (ground .probes) (λ v. getD (ground .levels) v 0) (entry table))
+          → colours ≡ colouring (entry above) 1 (depths .0) → own ≡ tab places (λ v. getD colours (getD (ground .levels) v 0) 0) → m ≡ coloursUsed colours
+          → (slotsBy (ground .probes) (ground .parents) table own m (ground .hops) (ground .packets) ≡ slotsOf s (byLevel s)) × (m ≡ byLevel s .colours)
+      unfolding slotsOf byLevel
+      by-level depths above colours own m deep tabled coloured looked used = (
+        over-sheet table own m
+            ∙ ap (λ (t : List (List Bool)). rounds (wayOf (probeCount s) (parentOf s) (entry t) m (ownersByLevel (probeCount s) (entry t) (λ v. getD own v 0))) (hops s) (before (packetsOf s)) .slots) its-table
+            ∙ ap (λ (now : Progress). now .slots)
+            (rounds-same (probeCount s) (parentOf s) (entry (conflictTable s)) m (ownersByLevel (probeCount s) (entry (conflictTable s)) (λ v. getD own v 0))
+            (ownersByLevel (probeCount s) (entry (conflictTable s)) (λ v. getD (levelColours s) (levelOf s v) 0))
+            (λ c may. owners-same (probeCount s) (entry (conflictTable s)) (λ v. getD own v 0) (λ v. getD (levelColours s) (levelOf s v) 0) (c + 1) may its-own)
+            (hops s) (before (packetsOf s)))
+            ∙ ap (λ (n : ℕ). rounds (wayOf (probeCount s) (parentOf s) (entry (conflictTable s)) n (ownersByLevel (probeCount s) (entry (conflictTable s)) (λ v. getD (levelColours s) (levelOf s v) 0))) (hops s) (before (packetsOf s)) .slots) its-used,
+        its-used,
+      )
+        where
+          its-depth : depths .0 ≡ depth s
+          its-depth = ap (λ (d : Level). d .0) deep ∙ ap₂ (λ (p : ℕ) (l : List ℕ). mostProbes p (λ v. getD l v 0)) (standing .probes) (standing .levels) ∙ depth-read s sheet-passed
+
+          its-colours : colours ≡ levelColours s
+          its-colours =
+              coloured
+              ∙ ap₂ (λ (t : List (List Bool)) (d : ℕ). colouring (entry t) 1 d)
+              (tabled
+              ∙ ap₂ (λ (p : ℕ) (l : List ℕ). tableOf (levelsConflict p (λ v. getD l v 0) (entry table))) (standing .probes) (standing .levels)
+              ∙ ap (λ (t : List (List Bool)). tableOf (levelsConflict (probeCount s) (λ v. getD (levels s) v 0) (entry t))) its-table)
+              its-depth
+              ∙ level-colours s
+
+          its-used : m ≡ coloursUsed (levelColours s)
+          its-used = used ∙ ap coloursUsed its-colours
+
+          its-own : (k : ℕ) → k < probeCount s → getD own (k + 2) 0 ≡ getD (levelColours s) (levelOf s (k + 2)) 0
+          its-own k h =
+              ap (λ (l : List ℕ). getD l (k + 2) 0) looked
+              ∙ getD-tab places (λ v. getD colours (getD (ground .levels) v 0) 0) (k + 2) 0 (omega (arith, few-probes s sheet-passed))
+              ∙ ap₂ (λ (l : List ℕ) (n : ℕ). getD l n 0) its-colours (ap (λ (l : List ℕ). getD l (k + 2) 0) (standing .levels) ∙ level-read s sheet-passed k h)

@@ -1,0 +1,361 @@
+// Reads a yard sheet: its first refusal, or the yard that it describes.
+ghost use mathlib.Core.Path.{_≡_};
+ghost use Prim.Native.Nat.{_<_, _≤_};
+ghost use mathlib.Core.Bool.{_||_, _&&_};
+ghost use lib.Dec.{eqb, ltb, leb};
+ghost use lib.ListN.{getD, drop};
+ghost use Rattle.meaning.specs.Words.{tab, places};
+ghost use Rattle.meaning.specs.Sheet.{probeRecords, pairCountAt, pairCount, pairRecords};
+ghost use Rattle.meaning.specs.Answer.{inOrder, probeTest, walkTest, pairTest, countsTest, sheetTest};
+ghost use Rattle.sheet.specs.Yard.{ofTheSheet, recordByte, refusedYard, yardOf};
+use meaning::Outcome;
+use meaning::Probe;
+use walk::Walk;
+
+// What a sheet is read as; the parents and the packets stand by node, and all is 0 where it is refused.
+pub struct Yard {
+    pub outcome: Outcome,
+    pub probes: u8,
+    pub parents: [u8; 65],
+    pub packets: [u8; 65],
+}
+
+// The byte of a sheet at a place; 0 past its end.
+fn byte(s: &[u8], at: usize) -> u8
+    ensures { λ r. ⌜ r ≡ getD (now (s .entry)) at 0 ⌝ }
+{
+    if at < s.len() { s[at] } else { 0 }
+}
+
+// The rest of a sheet from a place on; nothing past its end.
+fn rest(s: &[u8], at: usize) -> &[u8]
+    ensures { λ r. ⌜ now r ≡ drop at (now (s .entry)) ⌝ }
+{
+    let end = s.len();
+    if at < end { &s[at..] } else { &s[end..] }
+}
+
+// Where the two bytes q stand.
+fn pair_count_at(sheet: &[u8]) -> usize
+    ensures { λ r. ⌜ r ≡ pairCountAt (now (sheet .entry)) ⌝ }
+{
+    2 * (byte(sheet, 0) as usize) + 1
+}
+
+// q, the number of interfering pairs.
+pub fn pair_count(sheet: &[u8]) -> u16
+    ensures { λ r. ⌜ r ≡ pairCount (now (sheet .entry)) ⌝ }
+{
+    let at = pair_count_at(sheet);
+    256 * (byte(sheet, at) as u16) + byte(sheet, at + 1) as u16
+}
+
+// The probes' records: the rest of the sheet behind p.
+fn probe_records(sheet: &[u8]) -> &[u8]
+    ensures { λ r. ⌜ now r ≡ probeRecords (now (sheet .entry)) ⌝ }
+{
+    rest(sheet, 1)
+}
+
+// The pairs' records: the rest of the sheet behind q.
+pub fn pair_records(sheet: &[u8]) -> &[u8]
+    ensures { λ r. ⌜ now r ≡ pairRecords (now (sheet .entry)) ⌝ }
+{
+    let at = pair_count_at(sheet);
+    rest(sheet, at + 2)
+}
+
+// The number that the sheet's tests before its records give; its place is 0.
+fn counts_number(sheet: &[u8]) -> u8
+    ensures { λ r. ⌜ ofTheSheet r ≡ countsTest (now (sheet .entry)) ⌝ }
+{
+    let length = sheet.len();
+    if length == 0 {
+        return 1;
+    }
+    let p = byte(sheet, 0) as usize;
+    if 63 < p {
+        return 2;
+    }
+    let at = pair_count_at(sheet);
+    if length < at + 2 {
+        return 1;
+    }
+    let q = pair_count(sheet) as usize;
+    if p * (p + 1) / 2 < q {
+        return 2;
+    }
+    let whole = at + 2 + 2 * q;
+    if length < whole {
+        return 1;
+    }
+    if whole < length {
+        return 3;
+    }
+    0
+}
+
+// The sheet's tests before its records.
+fn counts_test(sheet: &[u8]) -> Outcome
+    ensures { λ r. ⌜ r ≡ countsTest (now (sheet .entry)) ⌝ }
+{
+    Outcome {
+        number: counts_number(sheet),
+        place: 0,
+    }
+}
+
+// A parent that is 0, above n, or the probe itself.
+fn parent_wrong(parent: u16, n: u16, probe: u16) -> bool
+    ensures { λ r. ⌜ r ≡ (eqb parent 0 || ltb n parent || eqb parent probe) ⌝ }
+{
+    parent == 0 || n < parent || parent == probe
+}
+
+// Packets 0 or above 15.
+fn packets_wrong(packets: u8) -> bool
+    ensures { λ r. ⌜ r ≡ (eqb packets 0 || ltb 15 packets) ⌝ }
+{
+    packets == 0 || 15 < packets
+}
+
+// 4 and 5 of probe k + 2.
+fn probe_test(records: &[u8], p: u8, k: u8) -> Outcome
+    ensures { λ r. ⌜ r ≡ probeTest (now (records .entry)) p k ⌝ }
+{
+    let probe = k as u16 + 2;
+    let at = 2 * (k as usize);
+    if parent_wrong(byte(records, at) as u16, p as u16 + 1, probe) {
+        return Outcome {
+            number: 4,
+            place: probe,
+        };
+    }
+    if packets_wrong(byte(records, at + 1)) {
+        return Outcome {
+            number: 5,
+            place: probe,
+        };
+    }
+    Outcome {
+        number: 0,
+        place: 0,
+    }
+}
+
+// The probes' tests in rising number, up to the first that gives a number.
+fn probes_test(records: &[u8], p: u8) -> Outcome
+    ensures { λ r. ⌜ r ≡ inOrder p (probeTest (now (records .entry)) p) ⌝ }
+{
+    let mut found = Outcome {
+        number: 0,
+        place: 0,
+    };
+    for k in 0..p {
+        found = probe_test(records, p, k);
+        if found.number != 0 {
+            return found;
+        }
+    }
+    found
+}
+
+// One byte of the record of node v; 0 where v is no probe.
+fn record_byte(records: &[u8], p: u8, side: usize, v: usize) -> u8
+    requires { ⌜ (side < 2) × (v < 65) ⌝ }
+    ensures { λ r. ⌜ r ≡ recordByte (now (records .entry)) p side v ⌝ }
+{
+    let n = p as usize + 1;
+    if v < 2 {
+        return 0;
+    }
+    if n < v {
+        return 0;
+    }
+    byte(records, 2 * (v - 2) + side)
+}
+
+// One byte of each record, by node.
+fn by_node(records: &[u8], p: u8, side: usize) -> [u8; 65]
+    requires { ⌜ side < 2 ⌝ }
+    ensures { λ r. ⌜ r ≡ tab places (recordByte (now (records .entry)) p side) ⌝ }
+{
+    let mut table = [0u8; 65];
+    for v in 0..65 {
+        table[v] = record_byte(records, p, side, v);
+    }
+    table
+}
+
+// Each probe's parent, by node.
+fn parents(records: &[u8], p: u8) -> [u8; 65]
+    ensures { λ r. ⌜ r ≡ tab places (recordByte (now (records .entry)) p 0) ⌝ }
+{
+    by_node(records, p, 0)
+}
+
+// Each probe's packets, by node.
+fn packets(records: &[u8], p: u8) -> [u8; 65]
+    ensures { λ r. ⌜ r ≡ tab places (recordByte (now (records .entry)) p 1) ⌝ }
+{
+    by_node(records, p, 1)
+}
+
+// 6 of probe k + 2.
+fn walk_test(parents: &[u8; 65], p: u8, k: u8) -> Outcome
+    requires { ⌜ k < 63 ⌝ }
+    ensures { λ r. ⌜ r ≡ walkTest (λ v. getD (now (parents .entry)) v 0) p k ⌝ }
+{
+    let probe = k + 2;
+    match walk::climb(parents, Probe(probe), p) {
+        Walk::Arrives(_) => Outcome {
+            number: 0,
+            place: 0,
+        },
+        Walk::Never => Outcome {
+            number: 6,
+            place: probe as u16,
+        },
+    }
+}
+
+// The probes' walks in rising number, up to the first that never arrives.
+fn walks_test(parents: &[u8; 65], p: u8) -> Outcome
+    requires { ⌜ p ≤ 63 ⌝ }
+    ensures { λ r. ⌜ r ≡ inOrder p (walkTest (λ v. getD (now (parents .entry)) v 0) p) ⌝ }
+{
+    let mut found = Outcome {
+        number: 0,
+        place: 0,
+    };
+    for k in 0..p {
+        found = walk_test(parents, p, k);
+        if found.number != 0 {
+            return found;
+        }
+    }
+    found
+}
+
+// A pair with a = 0, a ≥ b or b > n.
+fn pair_wrong(a: u16, b: u16, n: u16) -> bool
+    ensures { λ r. ⌜ r ≡ (eqb a 0 || leb b a || ltb n b) ⌝ }
+{
+    a == 0 || b <= a || n < b
+}
+
+// The pair c, d is above the pair a, b: by its first, and then by its second.
+fn rises(a: u16, b: u16, c: u16, d: u16) -> bool
+    ensures { λ r. ⌜ r ≡ (ltb a c || eqb a c && ltb b d) ⌝ }
+{
+    a < c || a == c && b < d
+}
+
+// 7 and 8 of pair k + 1.
+fn pair_test(records: &[u8], p: u8, k: u16) -> Outcome
+    requires { ⌜ k < 65535 ⌝ }
+    ensures { λ r. ⌜ r ≡ pairTest (now (records .entry)) p k ⌝ }
+{
+    let at = 2 * (k as usize);
+    let a = byte(records, at) as u16;
+    let b = byte(records, at + 1) as u16;
+    if pair_wrong(a, b, p as u16 + 1) {
+        return Outcome {
+            number: 7,
+            place: k + 1,
+        };
+    }
+    if k == 0 {
+        return Outcome {
+            number: 0,
+            place: 0,
+        };
+    }
+    let before = 2 * (k as usize - 1);
+    if rises(
+        byte(records, before) as u16,
+        byte(records, before + 1) as u16,
+        a,
+        b,
+    ) {
+        return Outcome {
+            number: 0,
+            place: 0,
+        };
+    }
+    Outcome {
+        number: 8,
+        place: k + 1,
+    }
+}
+
+// The pairs' tests in order, up to the first that gives a number.
+fn pairs_test(records: &[u8], p: u8, q: u16) -> Outcome
+    ensures { λ r. ⌜ r ≡ inOrder q (pairTest (now (records .entry)) p) ⌝ }
+{
+    let mut found = Outcome {
+        number: 0,
+        place: 0,
+    };
+    for k in 0..q {
+        found = pair_test(records, p, k);
+        if found.number != 0 {
+            return found;
+        }
+    }
+    found
+}
+
+// The sheet's tests in document 01's order: counts, probes, walks, pairs.
+fn sheet_test(sheet: &[u8]) -> Outcome
+    ensures { λ r. ⌜ r ≡ sheetTest (now (sheet .entry)) ⌝ }
+{
+    let counts = counts_test(sheet);
+    if counts.number != 0 {
+        return counts;
+    }
+    let p = byte(sheet, 0);
+    let records = probe_records(sheet);
+    let probes = probes_test(records, p);
+    if probes.number != 0 {
+        return probes;
+    }
+    let parents = parents(records, p);
+    let walks = walks_test(&parents, p);
+    if walks.number != 0 {
+        return walks;
+    }
+    pairs_test(pair_records(sheet), p, pair_count(sheet))
+}
+
+// What a refused sheet is read as.
+fn refused(outcome: Outcome) -> Yard
+    ensures { λ r. ⌜ r ≡ refusedYard outcome ⌝ }
+{
+    Yard {
+        outcome,
+        probes: 0,
+        parents: [0u8; 65],
+        packets: [0u8; 65],
+    }
+}
+
+// Reads a sheet whole.
+pub fn read(sheet: &[u8]) -> Yard
+    ensures { λ r. ⌜ r ≡ yardOf (now (sheet .entry)) ⌝ }
+{
+    let outcome = sheet_test(sheet);
+    if outcome.number != 0 {
+        return refused(outcome);
+    }
+    let probes = byte(sheet, 0);
+    let records = probe_records(sheet);
+    let parents = parents(records, probes);
+    let packets = packets(records, probes);
+    Yard {
+        outcome,
+        probes,
+        parents,
+        packets,
+    }
+}
