@@ -7,4 +7,9 @@ pub mod Colouring
 pub mod Conflicting
 pub mod Accepted
 pub mod Grounds
+pub mod Running
+pub mod Exact
+pub mod Joining
+pub mod Levels
+pub mod Own
 pub mod Yards

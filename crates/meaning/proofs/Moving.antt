@@ -12,7 +12,7 @@ use lib.ListN.{length, getD, set, length-set}
 use lib.Seq.{getD-set-same, getD-set-other}
 use Rattle.meaning.specs.Words.{sum, places}
 use Rattle.meaning.specs.Rounds.{hop, moved}
-use Rattle.meaning.proofs.Turns.{below-or-last, same-or-other, sum-same}
+use Rattle.meaning.proofs.Turns.{below-or-last, same-or-other, sum-same, in-sum}
 
 -- what the nodes hold, each packet weighed by where it is
 abbrev pub weigh : (ℕ → ℕ) → List ℕ → ℕ
@@ -113,6 +113,12 @@ weigh-moved w parent lo (v ∷ slot) held hl rising sending =
     let rest = weigh-moved w parent v slot (hop parent v held) after (rising .1) (sending-on parent v v held slot hl (omega arith) (rising .1) (sending .1)) in
     omega (arith, first, rest)
 
+-- senders that stand one above their parents
+pub weigh-up : (w parent : ℕ → ℕ) (slot : List ℕ) → Each (λ v. w v ≡ suc (w (parent v))) slot → weighAll w slot ≡ weighAll (λ v. w (parent v)) slot + length slot
+unfolding weighAll Each
+weigh-up w parent [] up = refl
+weigh-up w parent (v ∷ slot) up = omega (arith, up .0, weigh-up w parent slot (up .1))
+
 pub length-moved : (parent : ℕ → ℕ) (slot held : List ℕ) → length (moved parent slot held) ≡ length held
 unfolding moved
 length-moved parent [] held = refl
@@ -140,15 +146,5 @@ moved-keeps parent u (v ∷ slot) held hl hu others =
     omega (arith, first, rest)
 
 -- no node holds more than all together
-in-sum : (n : ℕ) (held : List ℕ) (u : ℕ) → u < n → getD held u 0 ≤ sum n (λ k. getD held k 0 * 1)
-unfolding sum
-in-sum zero held u h = absurd (not-suc-le-zero h)
-in-sum (suc n) held u h =
-    ⊎-elim (λ (b : u < n). omega (arith, in-sum n held u b))
-    (λ (e : u ≡ n).
-    let here : getD held u 0 ≡ getD held n 0 = ap (λ (j : ℕ). getD held j 0) e in
-    omega (arith, here))
-    (below-or-last u n h)
-
 pub in-all : (held : List ℕ) (u : ℕ) → u < places → getD held u 0 ≤ weigh (λ _. 1) held
-in-all held u h = in-sum places held u h
+in-all held u h = omega (arith, in-sum places (λ k. getD held k 0 * 1) u h)

@@ -127,6 +127,13 @@ unfolding sum
 sum-least zero f g e = omega arith
 sum-least (suc n) f g e = omega (arith, sum-least n f g (λ k h. e k (omega arith)), e n (omega arith))
 
+-- a part of a sum is no more than the sum
+pub in-sum : (n : ℕ) (f : ℕ → ℕ) (k : ℕ) → k < n → f k ≤ sum n f
+unfolding sum
+in-sum zero f k h = absurd (not-suc-le-zero h)
+in-sum (suc n) f k h =
+    ⊎-elim (λ (l : k < n). omega (arith, in-sum n f k l)) (λ (l : k ≡ n). omega (arith, ap f l)) (below-or-last k n h)
+
 pub sum-constant : (n c : ℕ) → sum n (λ _. c) ≡ n * c
 unfolding sum
 sum-constant zero c = sym (zero-mul c)

@@ -9,3 +9,4 @@ pub mod Rounds
 pub mod Answer
 pub mod Judge
 pub mod Lister
+pub mod Legal

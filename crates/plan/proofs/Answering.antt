@@ -27,7 +27,7 @@ use Rattle.meaning.proofs.Moving.{weigh}
 use Rattle.meaning.proofs.Colouring.{Conflicts, Proper, proper}
 use Rattle.meaning.proofs.Conflicting.{interfere-sym, conflicts, entry-conflict}
 use Rattle.meaning.proofs.Accepted.{then-stays, then-goes, then-assoc, then-accepted, given-accepted}
-use Rattle.meaning.proofs.Grounds.{few-probes, parent-read, packets-read, parent-node, level-up, few-packets, weigh-hops, few-hops}
+use Rattle.meaning.proofs.Grounds.{few-probes, parent-read, parent-node, level-up, few-packets, first-left, hops-most}
 use Rattle.plan.specs.Turn.{Ready}
 use Rattle.plan.specs.Going.{wayBy, from, slotsBy}
 use Rattle.plan.specs.Answered.{groundTest, Standing, Prepared, Finished}
@@ -106,21 +106,26 @@ module _ (s buffer : List ℕ) (ground : Ground) (prepared : Prepared s (length 
     parent : (λ (u : ℕ). getD (ground .parents) u 0) ≡ parentOf s
     parent = ap {B = ℕ → ℕ} (λ (l : List ℕ). λ u. getD l u 0) (standing .parents) ∙ parent-read s sheet-passed
 
+    a-probe : (k : ℕ) → k < probeCount s → isProbe (probeCount s) (k + 2) ≡ true
+    a-probe k h = probe-yes (probeCount s) (k + 2) (omega arith) (omega arith)
+
     pub ready : Ready (ground .probes) (λ u. getD (ground .parents) u 0) (ground .packets) (length buffer - 2)
+    unfolding levelOf
     ready =
         subst₃ (λ (p : ℕ) (up : ℕ → ℕ) (held : List ℕ). Ready p up held (length buffer - 2)) (sym (standing .probes)) (sym parent) (sym (standing .packets))
         (record {
           small = few-probes s sheet-passed;
           long = length-tab places (packetsOf s);
           few = few-packets s sheet-passed;
-          up = λ k h. (parent-node s sheet-passed k h, level-up s sheet-passed k h);
-          fits = omega (arith, weigh-hops s sheet-passed, room);
+          up = λ k h. (parent-node s sheet-passed (k + 2) (a-probe k h), level-up s sheet-passed (k + 2) (a-probe k h));
+          fits = omega (arith, first-left s sheet-passed, room);
         })
 
     pub few : weigh (levelBy (ground .probes) (λ u. getD (ground .parents) u 0)) (ground .packets) ≤ 65535
+    unfolding levelOf
     few =
         subst₃ (λ (p : ℕ) (up : ℕ → ℕ) (held : List ℕ). weigh (levelBy p up) held ≤ 65535) (sym (standing .probes)) (sym parent) (sym (standing .packets))
-        (omega (arith, weigh-hops s sheet-passed, few-hops s sheet-passed))
+        (omega (arith, first-left s sheet-passed, hops-most s sheet-passed))
 
     -- the code's plan, over what the sheet says
     over-sheet : (table : List (List Bool)) (own : List ℕ) (m : ℕ)

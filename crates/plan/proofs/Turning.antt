@@ -16,7 +16,7 @@ use Rattle.meaning.specs.Words.{forEach, some, tab, places, probesThat, somePro
 use Rattle.meaning.specs.Plan.{front, slotBytes}
 use Rattle.meaning.specs.Rounds.{holds, clashes, joins, joined, senders, slotOf, ownersByLevel, moved}
 use Rattle.meaning.proofs.Turns.{below-or-last, forEach-keeps, forEach-one, some-found, some-none, none-some, some-where, some-one, same-or-other}
-use Rattle.meaning.proofs.Moving.{weigh, weighAll, Each, Rising, Sender, weigh-moved, kept, length-moved}
+use Rattle.meaning.proofs.Moving.{weigh, Each, Rising, Sender, weigh-moved, weigh-up, kept, length-moved}
 use Rattle.meaning.proofs.Slots.{Only, only-joined, each-probe, each-slot, each-so, rising-slot, rising-probes, and-left, and-right, never, true-or-false}
 use Rattle.plan.specs.Turn.{blockedBy, mayFor, anyTaken, Joining, nobody, Chosen, Ready, Written, Turned, turnSlot, made}
 use Rattle.meaning.specs.Yard.{levelBy}
@@ -162,12 +162,6 @@ some-sender p test k h e =
 owners-long : (p : ℕ) (relation : ℕ → ℕ → Bool) (own : ℕ → ℕ) (s : ℕ) (may : ℕ → Bool) → length (ownersByLevel p relation own s may) ≡ places
 unfolding ownersByLevel
 owners-long p relation own s may = joining-long relation (λ v. eqb (own v) s && may v) nobody p
-
--- senders that stand one level above their parents
-weigh-up : (w parent : ℕ → ℕ) (slot : List ℕ) → Each (λ v. w v ≡ suc (w (parent v))) slot → weighAll w slot ≡ weighAll (λ v. w (parent v)) slot + length slot
-unfolding weighAll Each
-weigh-up w parent [] up = refl
-weigh-up w parent (v ∷ slot) up = omega (arith, up .0, weigh-up w parent slot (up .1))
 
 module _ (p : ℕ) (parent : ℕ → ℕ) (held : List ℕ) (room : ℕ) (ready : Ready p parent held room) where
   -- a probe that holds a packet can send
