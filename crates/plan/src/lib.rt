@@ -18,6 +18,7 @@ ghost use Rattle.meaning.specs.Yard.{levelBy};
 use meaning::Colour;
 use meaning::Outcome;
 use meaning::Planned;
+use meaning::Probe;
 
 // What a planner stands on, once the sheet and the room have passed.
 struct Ground {
@@ -48,18 +49,19 @@ fn block(row: &[bool; 65], blocked: &mut [bool; 65])
 }
 
 // Whether v may send in the slot of colour s: it holds a packet, and owns the slot or, where s is 0, only joins.
-fn may(own: &[u8; 65], s: Colour, held: &[u16; 65], v: usize) -> bool
-    requires { ⌜ v < 65 ⌝ }
-    ensures { λ r. ⌜ r ≡ mayFor (now (own .entry)) (s .0) (now (held .entry)) v ⌝ }
+fn may(own: &[u8; 65], s: Colour, held: &[u16; 65], v: Probe) -> bool
+    requires { ⌜ v .0 < 65 ⌝ }
+    ensures { λ r. ⌜ r ≡ mayFor (now (own .entry)) (s .0) (now (held .entry)) (v .0) ⌝ }
 {
     let colour = s.0;
-    if held[v] == 0 {
+    let i = v.0 as usize;
+    if held[i] == 0 {
         return false;
     }
     if colour == 0 {
         return true;
     }
-    own[v] == colour
+    own[i] == colour
 }
 
 // The turn of probe v to be chosen: it is, if it may and conflicts with none chosen so far; says whether it was.
@@ -68,23 +70,24 @@ fn consider(
     own: &[u8; 65],
     s: Colour,
     held: &[u16; 65],
-    v: usize,
+    v: Probe,
     chosen: &mut [bool; 65],
     blocked: &mut [bool; 65],
 ) -> bool
-    requires node { ⌜ v < 65 ⌝ }
+    requires node { ⌜ v .0 < 65 ⌝ }
     requires long { ⌜ length (now chosen) ≡ 65 ⌝ }
     requires known { ⌜ now blocked ≡ blockedBy (entry (now table)) (now chosen) ⌝ }
-    ensures { λ r. ⌜ Considered (entry (now (table .entry))) (mayFor (now (own .entry)) (s .0) (now (held .entry))) v (now (chosen .entry)) (now (chosen .exit)) (now (blocked .exit)) r ⌝ }
+    ensures { λ r. ⌜ Considered (entry (now (table .entry))) (mayFor (now (own .entry)) (s .0) (now (held .entry))) (v .0) (now (chosen .entry)) (now (chosen .exit)) (now (blocked .exit)) r ⌝ }
 {
     if !may(own, s, held, v) {
         return false;
     }
-    if blocked[v] {
+    let i = v.0 as usize;
+    if blocked[i] {
         return false;
     }
-    chosen[v] = true;
-    block(&table[v], blocked);
+    chosen[i] = true;
+    block(&table[i], blocked);
     true
 }
 
@@ -106,8 +109,7 @@ fn join(
     let mut any = false;
     let mut k: u8 = 0;
     while k < p {
-        let v = (k + 2) as usize;
-        let taken = consider(table, own, s, held, v, chosen, blocked);
+        let taken = consider(table, own, s, held, Probe(k + 2), chosen, blocked);
         any = any | taken;
         k += 1;
     }
@@ -136,14 +138,15 @@ fn write_slot(rest: &mut [u8], p: u8, chosen: &[bool; 65]) -> usize
 }
 
 // Moves one packet of probe v to its parent.
-fn hop(parents: &[u8; 65], v: usize, held: &mut [u16; 65])
+fn hop(parents: &[u8; 65], v: Probe, held: &mut [u16; 65])
     requires long { ⌜ length (now held) ≡ 65 ⌝ }
     requires few { ⌜ weigh (λ _. 1) (now held) ≤ 945 ⌝ }
-    requires sender { ⌜ Sender (λ u. getD (now parents) u 0) (now held) v ⌝ }
-    ensures { λ _. ⌜ now (held .exit) ≡ hop (λ u. getD (now (parents .entry)) u 0) v (now (held .entry)) ⌝ }
+    requires sender { ⌜ Sender (λ u. getD (now parents) u 0) (now held) (v .0) ⌝ }
+    ensures { λ _. ⌜ now (held .exit) ≡ hop (λ u. getD (now (parents .entry)) u 0) (v .0) (now (held .entry)) ⌝ }
 {
-    held[v] -= 1;
-    let up = parents[v] as usize;
+    let i = v.0 as usize;
+    held[i] -= 1;
+    let up = parents[i] as usize;
     held[up] += 1;
 }
 
@@ -159,7 +162,7 @@ fn move_packets(p: u8, parents: &[u8; 65], chosen: &[bool; 65], held: &mut [u16;
     while k < p {
         let v = (k + 2) as usize;
         if chosen[v] {
-            hop(parents, v, held);
+            hop(parents, Probe(k + 2), held);
         }
         k += 1;
     }

@@ -27,19 +27,22 @@ returns : tie.Need-returns
 returns c =
     let start = c .before .before in
     let a = start .args in
-    not-allowed _ _ (a .v) (a .chosen .now) (a .blocked .now) (start .pre .0) (start .pre .1 .0) (start .pre .1 .1)
+    not-allowed _ _ (a .v .0) (a .chosen .now) (a .blocked .now) (start .pre .0) (start .pre .1 .0) (start .pre .1 .1)
     (sym (c .before .may .ensures) ∙ not-true (c .before .may .result) (c .if1 .taken))
 
 -- src/lib.rt:60:8
+cast-i : tie.Need-cast-i
+cast-i c = search needs
+
 element-copy-out-if2 : tie.Need-element-copy-out-if2
 element-copy-out-if2 c = search needs
 
 -- src/lib.rt:61:9
 returns-2 : tie.Need-returns-2
 returns-2 c =
-    let start = c .before .before .before .before in
+    let start = c .before .before .before .before .before in
     let a = start .args in
-    not-free _ _ (a .v) (a .chosen .now) (a .blocked .now) (start .pre .0) (start .pre .1 .0) (start .pre .1 .1) (c .if2 .taken)
+    not-free _ _ (a .v .0) (a .chosen .now) (a .blocked .now) (start .pre .0) (start .pre .1 .0) (start .pre .1 .1) (c .if2 .taken)
 
 -- src/lib.rt:63:5
 element-write-chosen : tie.Need-element-write-chosen
@@ -56,18 +59,18 @@ index-1-block c = search needs
 -- src/lib.rt:64:5
 block-requires : tie.Need-block-requires
 block-requires c κs =
-    let start = c .before .before .before .before .before .before in
+    let start = c .before .before .before .before .before .before .before in
     ap length (start .pre .1 .1) ∙ length-tab places (clashes (entry (start .args .table .now)) (start .args .chosen .now))
 
 -- src/lib.rt:43:1
 returns-3 : tie.Need-returns-3
 returns-3 c =
-    let start = c .before .before .before .before .before .before .before in
+    let start = c .before .before .before .before .before .before .before .before in
     let a = start .args in
-    taken _ _ (a .v) (a .chosen .now) (a .blocked .now) (start .pre .0) (start .pre .1 .0) (start .pre .1 .1)
-    (sym (c .before .before .before .before .before .before .may .ensures)
-    ∙ not-false (c .before .before .before .before .before .before .may .result) (c .before .before .before .before .before .if1 .left))
-    (c .before .before .before .if2 .left) (getD (a .table .now) (a .v) []) (c .block .last .1 .0) (λ i. refl) (c .block .ensures)
+    taken _ _ (a .v .0) (a .chosen .now) (a .blocked .now) (start .pre .0) (start .pre .1 .0) (start .pre .1 .1)
+    (sym (c .before .before .before .before .before .before .before .may .ensures)
+    ∙ not-false (c .before .before .before .before .before .before .before .may .result) (c .before .before .before .before .before .before .if1 .left))
+    (c .before .before .before .if2 .left) (getD (a .table .now) (a .v .0) []) (c .block .last .1 .0) (λ i. refl) (c .block .ensures)
 
 pub consider-spec : {M : Type 1} → statement M
 consider-spec =
@@ -75,6 +78,7 @@ consider-spec =
     (tie.spec
     may-requires
     returns
+    cast-i
     element-copy-out-if2
     returns-2
     element-write-chosen

@@ -10,6 +10,9 @@ use Rattle.plan.proofs.hop.Reads as reads
 use Rattle.plan.proofs.hop.Lts as lts
 
 -- src/lib.rt:123:5
+cast-i : tie.Need-cast-i
+cast-i c = search needs
+
 mul-held : tie.Need-mul-held
 mul-held c = search needs
 
@@ -44,11 +47,11 @@ element-copy-out-held-2 c = search needs
 -- src/lib.rt:125:5
 add-held : tie.Need-add-held
 add-held c =
-    let start = c .before .before .before in
+    let start = c .before .before .before .before in
     let a = start .args in
     omega (
       arith,
-      less-few (a .held .now) (a .v) (getD (a .parents .now) (a .v) 0) 945 (start .pre .0) (start .pre .1 .1 .1) (start .pre .1 .1 .2) (start .pre .1 .0),
+      less-few (a .held .now) (a .v .0) (getD (a .parents .now) (a .v .0) 0) 945 (start .pre .0) (start .pre .1 .1 .1) (start .pre .1 .1 .2) (start .pre .1 .0),
     )
 
 -- src/lib.rt:125:5
@@ -63,6 +66,7 @@ pub hop-spec : {M : Type 1} → statement M
 hop-spec =
     tie.close
     (tie.spec
+    cast-i
     mul-held
     element-copy-out-held
     sub-held

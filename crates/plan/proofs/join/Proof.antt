@@ -25,13 +25,8 @@ abbrev μ-loop : tie.MeasureT-loop
 loop-holds : tie.Need-loop-holds Inv-loop μ-loop
 loop-holds c = (search needs, joining-start _ _ _ _ (c .pre .1 .1))
 
--- src/lib.rt:86:18
-add-v : tie.Need-add-v Inv-loop μ-loop
-add-v c = search needs
-
--- src/lib.rt:86:17
-cast-v : tie.Need-cast-v Inv-loop μ-loop
-cast-v c = search needs
+add-t12 : tie.Need-add-t12 Inv-loop μ-loop
+add-t12 c = search needs
 
 -- src/lib.rt:87:13
 consider-requires : tie.Need-consider-requires Inv-loop μ-loop
@@ -70,8 +65,7 @@ join-spec =
     Inv-loop
     μ-loop
     loop-holds
-    add-v
-    cast-v
+    add-t12
     consider-requires
     add-k
     loop-less

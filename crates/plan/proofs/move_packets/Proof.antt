@@ -40,6 +40,9 @@ cast-v c = search needs
 element-copy-out-if1 : tie.Need-element-copy-out-if1 Inv-loop μ-loop
 element-copy-out-if1 c = search needs
 
+add-t13 : tie.Need-add-t13 Inv-loop μ-loop
+add-t13 c = search needs
+
 -- src/lib.rt:140:13
 hop-requires : tie.Need-hop-requires Inv-loop μ-loop
 hop-requires c κs =
@@ -103,6 +106,7 @@ move-packets-spec =
     add-v
     cast-v
     element-copy-out-if1
+    add-t13
     hop-requires
     add-k
     loop-less

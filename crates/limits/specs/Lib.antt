@@ -1,0 +1,2 @@
+-- What the limits are told in besides the meaning.
+pub mod Sent
