@@ -11,3 +11,4 @@ pub mod MostByProbe
 pub mod Line
 pub mod OneLevel
 pub mod MostByLevel
+pub mod Promises
