@@ -1,0 +1,2 @@
+-- Laws that the proofs of the chooser's functions cite.
+pub mod Choosing

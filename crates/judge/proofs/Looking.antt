@@ -1,0 +1,37 @@
+-- A search that stops at the first that passes a test: one invariant and its laws, for every search of the judge. Assumes nothing.
+use mathlib.Core.Path.{_≡_, refl, sym, ap, ap₂, _∙_}
+use mathlib.Core.Bool.{Bool, true, false, _||_, _&&_}
+use Prim.Native.Nat.{ℕ, _+_, _≤_, _<_}
+use native.Mathlib.Omega.{arith}
+use borrow.Author.Tests.{le-ltb}
+use lib.Dec.{ltb}
+use Rattle.meaning.specs.Words.{some}
+use Rattle.meaning.proofs.Turns.{some-one, some-found, none-some}
+
+-- as far as number k of n: none of those before passes
+pub record Looking (test : ℕ → Bool) (n k : ℕ) : Type 0 where
+  pub within : k ≤ n
+  pub none : some k test ≡ false
+
+pub looking-starts : {test : ℕ → Bool} {n : ℕ} → Looking test n 0
+unfolding some
+looking-starts = record { within = omega arith; none = refl }
+
+-- one more does not pass
+pub looking-on : {test : ℕ → Bool} {n k : ℕ} → Looking test n k → k < n → test k ≡ false → Looking test n (k + 1)
+looking-on {test} {n} {k} l h e = record { within = omega arith; none = some-one k test ∙ ap₂ _||_ (l .none) e }
+
+-- one passes: that is the whole answer
+pub looking-found : (test : ℕ → Bool) (n k : ℕ) → k < n → test k ≡ true → true ≡ some n test
+looking-found test n k h e = sym (some-found n test k h e)
+
+-- none is left
+pub looking-ends : {test : ℕ → Bool} {n k : ℕ} → Looking test n k → n ≤ k → some n test ≡ false
+looking-ends {test} {n} {k} l h =
+    let all : n ≡ k = omega (arith, l .within) in
+    ap (λ (m : ℕ). some m test) all ∙ l .none
+
+-- among the pairs whose second is above i, none is looked for up to i
+pub looking-above : (test : ℕ → Bool) (n i : ℕ) → i < n → Looking (λ j. ltb i j && test j) n (i + 1)
+looking-above test n i h =
+    record { within = omega arith; none = none-some (i + 1) (λ j. ltb i j && test j) (λ j hj. ap (λ (b : Bool). b && test j) (le-ltb i j (omega arith))) }

@@ -1,0 +1,61 @@
+-- `judge::plan_test` meets its contract: the slots decide, then 16, then 17. Assumes nothing.
+use mathlib.Core.Path.{sym, subst}
+use mathlib.Core.List.{List}
+use Prim.Native.Nat.{ℕ}
+use lib.ListN.{getD}
+use Rattle.judge.specs.Turn.{Ready}
+use Rattle.judge.proofs.Judging.{slots-decide, gives-16, gives-17, gives-0}
+use borrow.Author.Needs.{needs}
+use Rattle.judge.proofs.plan_test.Statement.{statement}
+use Rattle.judge.proofs.plan_test.Tie as tie
+
+slot-count-requires : tie.Need-slot-count-requires
+slot-count-requires c κs = search needs
+
+wide-requires : tie.Need-wide-requires
+wide-requires c κs = search needs
+
+slots-judged-requires : tie.Need-slots-judged-requires
+slots-judged-requires c κs =
+    let start = c .before .before .before .before in
+    (start .pre .0, subst (λ (l : List ℕ). Ready (start .args .p) (λ u. getD (start .args .parents .now) u 0) l) (sym (c .before .wide .ensures)) (start .pre .1))
+
+returns : tie.Need-returns
+returns c = slots-decide _ _ _ _ _ _ (c .before .before .before .before .before .before .slot-count .ensures) _ (c .before .before .before .before .before .wide .ensures) _ _ _ (c .before .before .before .slots-judged .ensures) (c .if1 .taken)
+
+refusal-requires : tie.Need-refusal-requires
+refusal-requires c κs = search needs
+
+returns-2 : tie.Need-returns-2
+returns-2 c = gives-16 _ _ _ _ _ _ (c .before .before .before .before .before .before .before .before .before .slot-count .ensures) _ (c .before .before .before .before .before .before .before .before .wide .ensures) _ _ _ (c .before .before .before .before .before .before .slots-judged .ensures) (c .before .before .before .if1 .left) _ (c .refusal .ensures) (c .before .if2 .taken)
+
+any-outside-requires : tie.Need-any-outside-requires
+any-outside-requires c κs = search needs
+
+refusal-requires-2 : tie.Need-refusal-requires-2
+refusal-requires-2 c κs = search needs
+
+returns-3 : tie.Need-returns-3
+returns-3 c = gives-17 _ _ _ _ _ _ (c .before .before .before .before .before .before .before .before .before .before .before .before .slot-count .ensures) _ (c .before .before .before .before .before .before .before .before .before .before .before .wide .ensures) _ _ _ (c .before .before .before .before .before .before .before .before .before .slots-judged .ensures) (c .before .before .before .before .before .before .if1 .left) (c .before .before .before .before .if2 .left) _ (c .before .before .any-outside .ensures) _ (c .refusal2 .ensures) (c .before .if3 .taken)
+
+passed-requires : tie.Need-passed-requires
+passed-requires c κs = search needs
+
+returns-4 : tie.Need-returns-4
+returns-4 c = gives-0 _ _ _ _ _ _ (c .before .before .before .before .before .before .before .before .before .before .before .before .slot-count .ensures) _ (c .before .before .before .before .before .before .before .before .before .before .before .wide .ensures) _ _ _ (c .before .before .before .before .before .before .before .before .before .slots-judged .ensures) (c .before .before .before .before .before .before .if1 .left) (c .before .before .before .before .if2 .left) _ (c .before .before .any-outside .ensures) _ (c .passed .ensures) (c .before .if3 .left)
+
+pub plan-test-spec : {M : Type 1} → statement M
+plan-test-spec =
+    tie.close
+    (tie.spec
+    slot-count-requires
+    wide-requires
+    slots-judged-requires
+    returns
+    refusal-requires
+    returns-2
+    any-outside-requires
+    refusal-requires-2
+    returns-3
+    passed-requires
+    returns-4)

@@ -1,0 +1,62 @@
+-- `judge::slots_judged` meets its contract: as far as slot k the definition has come to the same, the packets held together stay, and a refusal stays. Assumes nothing.
+use mathlib.Core.Path.{sym, subst}
+use Prim.Native.Nat.{_-_}
+use lib.ListN.{getD}
+use Rattle.meaning.specs.declared.Outcome.{Outcome}
+use Rattle.meaning.specs.Conflict.{entry}
+use Rattle.judge.proofs.Going.{Going, going-starts, going-on, going-stops, going-ends}
+use borrow.Author.Needs.{needs}
+use Rattle.judge.proofs.slots_judged.Statement.{statement}
+use Rattle.judge.proofs.slots_judged.Tie as tie
+
+abbrev Inv-loop : tie.InvT-loop
+Inv-loop p parents table plan many held₀ outcome₀ at₀ k₀ held outcome at k = Going p (λ u. getD parents u 0) (entry table) plan many held₀ k outcome at held
+
+abbrev μ-loop : tie.MeasureT-loop
+μ-loop p parents table plan many held₀ outcome₀ at₀ k₀ held outcome at k = many - k
+
+passed-requires : tie.Need-passed-requires Inv-loop μ-loop
+passed-requires c κs = search needs
+
+loop-holds : tie.Need-loop-holds Inv-loop μ-loop
+loop-holds c =
+    let a = c .before .before .args in
+    subst (λ (o : Outcome). Going (a .p) (λ u. getD (a .parents .now) u 0) (entry (a .table .now)) (a .plan .now) (a .many) (a .held .now) 0 o 2 (a .held .now)) (sym (c .passed .ensures))
+    (going-starts (a .p) (λ u. getD (a .parents .now) u 0) (entry (a .table .now)) (a .plan .now) (a .many) (a .held .now) (c .before .before .pre .0) (c .before .before .pre .1))
+
+add-t12 : tie.Need-add-t12 Inv-loop μ-loop
+add-t12 c = search needs
+
+slot-judged-requires : tie.Need-slot-judged-requires Inv-loop μ-loop
+slot-judged-requires c κs = (c .before .before .loop .inv .inside, c .before .before .loop .inv .ready)
+
+returns : tie.Need-returns Inv-loop μ-loop
+returns c = going-stops _ _ _ _ (c .before .before .before .before .before .before .loop .inv) (c .before .before .before .before .before .loop-test .taken) _ _ _ (c .before .before .before .slot-judged .ensures) (c .if1 .taken)
+
+add-k : tie.Need-add-k Inv-loop μ-loop
+add-k c = search needs
+
+loop-less : tie.Need-loop-less Inv-loop μ-loop
+loop-less c = search needs
+
+loop-again : tie.Need-loop-again Inv-loop μ-loop
+loop-again c = going-on _ _ _ _ (c .before .before .before .before .before .before .loop .inv) (c .before .before .before .before .before .loop-test .taken) _ _ _ (c .before .before .before .slot-judged .ensures) (c .if1 .left)
+
+returns-2 : tie.Need-returns-2 Inv-loop μ-loop
+returns-2 c = going-ends _ _ _ _ (c .before .loop .inv) (c .loop-test .left)
+
+pub slots-judged-spec : {M : Type 1} → statement M
+slots-judged-spec =
+    tie.close
+    (tie.spec
+    Inv-loop
+    μ-loop
+    passed-requires
+    loop-holds
+    add-t12
+    slot-judged-requires
+    returns
+    add-k
+    loop-less
+    loop-again
+    returns-2)

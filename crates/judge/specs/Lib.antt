@@ -1,0 +1,3 @@
+-- What the judge's code is measured by, besides the meaning of document 01.
+pub mod Slot
+pub mod Turn
