@@ -51,6 +51,21 @@ unfolding slotBytes
 made-fewer [] = omega arith
 made-fewer (v ∷ slot) = omega arith
 
+-- the buffer keeps its length
+pub going-long : {p : ℕ} {parent : ℕ → ℕ} {now : Progress} {held rest₀ rest : List ℕ} {at slots : ℕ} → Going p parent now held rest₀ rest at slots
+    → length rest ≡ length rest₀
+going-long {now} {rest₀} going = ap length (going .wrote) ∙ length-front rest₀ (slotBytes (now .slots)) (omega (arith, going .counted, going .within))
+
+-- the part from `at` on, as the code lends it
+pub part-from : (l : List ℕ) (at : ℕ) → take (length l - at) (drop at l) ≡ drop at l
+part-from l at = take-all (length l - at) (drop at l) (rw (length-drop at l) (omega arith))
+
+-- the buffer after such a part was changed
+pub put-behind : (l part : List ℕ) (at : ℕ) → at ≤ length l → putMid at (length l - at) l part ≡ take at l ++ part
+put-behind l part at h =
+    let none : drop (length l - at) (drop at l) ≡ [] = drop-of-length-le (drop at l) {i = length l - at} (rw (length-drop at l) (omega arith)) in
+    ap (λ (r : List ℕ). take at l ++ (part ++ r)) none ∙ ap (λ (r : List ℕ). take at l ++ r) (append-nil part)
+
 module _ (p : ℕ) (parents : List ℕ) (table : List (List Bool)) (own : List ℕ) (m : ℕ) where
   abbrev parent : ℕ → ℕ
   parent u = getD parents u 0
@@ -86,14 +101,15 @@ module _ (p : ℕ) (parents : List ℕ) (table : List (List Bool)) (own : List �
         ready = subst (λ (r : ℕ). Ready p parent held r) (sym (native.Mathlib.Nat.sub-zero (length rest))) ready;
       }
 
-  -- one more turn
+  -- one more turn, whose slot is written into the part from `at` on
   pub going-next : (k : ℕ) (held₀ held rest₀ rest : List ℕ) (at slots : ℕ) → Going p parent (turns k held₀) held rest₀ rest at slots
       → (held′ part : List ℕ) (bytes : ℕ)
-      → Turned parent (turnSlot p (way .relation) (λ v. getD own v 0) (k + 1) held) held held′ (drop at rest) part bytes
+      → Turned parent (turnSlot p (way .relation) (λ v. getD own v 0) (k + 1) held) held held′ (take (length rest - at) (drop at rest)) part bytes
       → (more : ℕ) → more ≡ cond (eqb bytes 0) 0 1
-      → Going p parent (turns (k + 1) held₀) held′ rest₀ (take at rest ++ part) (at + bytes) (slots + more)
-  going-next k held₀ held rest₀ rest at slots now held′ part bytes turned more count =
-      subst (λ (then : Progress). Going p parent then held′ rest₀ (take at rest ++ part) (at + bytes) (slots + more)) (sym (turns-next k held₀))
+      → Going p parent (turns (k + 1) held₀) held′ rest₀ (putMid at (length rest - at) rest part) (at + bytes) (slots + more)
+  going-next k held₀ held rest₀ rest at slots now held′ part bytes lent more count =
+      subst₂ (λ (then : Progress) (r : List ℕ). Going p parent then held′ rest₀ r (at + bytes) (slots + more)) (sym (turns-next k held₀))
+      (sym (put-behind rest part at (omega (arith, going-long now, now .within))))
       (record {
         holding = turned .moves ∙ ap (λ (h : List ℕ). moved parent (slotAt h) h) (now .holding);
         counted =
@@ -131,13 +147,11 @@ module _ (p : ℕ) (parents : List ℕ) (table : List (List Bool)) (own : List �
       slotAt : List ℕ → List ℕ
       slotAt h = turnSlot p (way .relation) (λ v. getD own v 0) (k + 1) h
 
+      turned : Turned parent (slotAt held) held held′ (drop at rest) part bytes
+      turned = subst (λ (from′ : List ℕ). Turned parent (slotAt held) held held′ from′ part bytes) (part-from rest at) lent
+
       room : (length rest₀ - at) - length (slotBytes (made (slotAt held))) ≡ length rest₀ - (at + bytes)
       room = omega (arith, turned .counted)
-
--- the buffer keeps its length
-pub going-long : {p : ℕ} {parent : ℕ → ℕ} {now : Progress} {held rest₀ rest : List ℕ} {at slots : ℕ} → Going p parent now held rest₀ rest at slots
-    → length rest ≡ length rest₀
-going-long {now} {rest₀} going = ap length (going .wrote) ∙ length-front rest₀ (slotBytes (now .slots)) (omega (arith, going .counted, going .within))
 
 -- a round only adds to the slots that are there
 module _ (way : Way) where
@@ -193,16 +207,6 @@ going-behind p parent now then held rest₀ rest at slots first held′ part byt
     left : length (drop at rest) ≡ length rest₀ - at
     left = length-drop at rest ∙ ap (λ (n : ℕ). n - at) (going-long first)
 
--- the part from `at` on, as the code lends it
-pub part-from : (l : List ℕ) (at : ℕ) → take (length l - at) (drop at l) ≡ drop at l
-part-from l at = take-all (length l - at) (drop at l) (rw (length-drop at l) (omega arith))
-
--- the buffer after such a part was changed
-pub put-behind : (l part : List ℕ) (at : ℕ) → at ≤ length l → putMid at (length l - at) l part ≡ take at l ++ part
-put-behind l part at h =
-    let none : drop (length l - at) (drop at l) ≡ [] = drop-of-length-le (drop at l) {i = length l - at} (rw (length-drop at l) (omega arith)) in
-    ap (λ (r : List ℕ). take at l ++ (part ++ r)) none ∙ ap (λ (r : List ℕ). take at l ++ r) (append-nil part)
-
 -- rounds, while any packet is outside the gateway
 module _ (p : ℕ) (parents : List ℕ) (table : List (List Bool)) (own : List ℕ) (m : ℕ) where
   abbrev road : Way
@@ -230,10 +234,11 @@ module _ (p : ℕ) (parents : List ℕ) (table : List (List Bool)) (own : List �
 
   pub going-round : (r : ℕ) (held₀ held rest₀ rest : List ℕ) (at slots : ℕ) → Going p (road .parent) (rounds road r (from held₀)) held rest₀ rest at slots
       → outside p held ≡ true → (held′ part : List ℕ) (bytes more : ℕ)
-      → Going p (road .parent) (round road (from held)) held′ (drop at rest) part bytes more
-      → Going p (road .parent) (rounds road (r + 1) (from held₀)) held′ rest₀ (take at rest ++ part) (at + bytes) (slots + more)
-  going-round r held₀ held rest₀ rest at slots now e held′ part bytes more next =
-      subst (λ (then : Progress). Going p (road .parent) then held′ rest₀ (take at rest ++ part) (at + bytes) (slots + more))
+      → Going p (road .parent) (round road (from held)) held′ (take (length rest - at) (drop at rest)) part bytes more
+      → Going p (road .parent) (rounds road (r + 1) (from held₀)) held′ rest₀ (putMid at (length rest - at) rest part) (at + bytes) (slots + more)
+  going-round r held₀ held rest₀ rest at slots now e held′ part bytes more lent =
+      subst₂ (λ (then : Progress) (l : List ℕ). Going p (road .parent) then held′ rest₀ l (at + bytes) (slots + more))
       (sym (rounds-next r held₀ (subst (λ (h : List ℕ). outside p h ≡ true) (now .holding) e) ∙ round-behind road (rounds road r (from held₀))))
+      (sym (put-behind rest part at (omega (arith, going-long now, now .within))))
       (going-behind p (road .parent) (rounds road r (from held₀)) (round road (from (rounds road r (from held₀) .held))) held rest₀ rest at slots now held′ part bytes more
-      (subst (λ (h : List ℕ). Going p (road .parent) (round road (from h)) held′ (drop at rest) part bytes more) (now .holding) next))
+      (subst₂ (λ (h l : List ℕ). Going p (road .parent) (round road (from h)) held′ l part bytes more) (now .holding) (part-from rest at) lent))

@@ -64,21 +64,8 @@ turn-requires c κs =
 -- src/lib.rt:220:9
 add-at : tie.Need-add-at Inv-loop μ-loop
 add-at c =
-    let a = c .before .before .before .before .before .before .before .before .args in
     let l = c .before .before .before .before .before .before .loop in
-    let turn = c .before .before .turn in
-    let parent : ℕ → ℕ = λ u. getD (a .parents .now) u 0 in
-    let slot = turnSlot (a .p) (entry (a .table .now)) (λ v. getD (a .own .now) v 0) (l .s + 1) (l .held) in
-    let held′ : List ℕ = turn .last .1 .1 .1 .1 .1 .0 in
-    let part : List ℕ = turn .last .1 .1 .1 .1 .1 .1 .0 in
-    let turned : Turned parent slot (l .held) held′ (drop (l .at) (l .rest)) part (turn .result) =
-    subst (λ (lent : List ℕ). Turned parent slot (l .held) held′ lent part (turn .result)) (part-from (l .rest) (l .at)) (turn .ensures)
-    in
-    let next =
-    going-next (a .p) (a .parents .now) (a .table .now) (a .own .now) (a .m) (l .s) (a .held .now) (l .held) (a .rest .now) (l .rest) (l .at) (l .slots)
-    (l .inv .1) held′ part (turn .result) turned _ refl
-    in
-    omega (arith, next .within, going-long (l .inv .1))
+    omega (arith, going-next _ _ _ _ _ _ _ _ _ _ _ _ (l .inv .1) _ _ _ (c .before .before .turn .ensures) _ refl .within, c .before .before .before .before .before .before .before .before .good .1 .1 .1 .1 .1 .1 .0 .0)
 
 -- src/lib.rt:221:18
 slots-in-requires : tie.Need-slots-in-requires Inv-loop μ-loop
@@ -87,21 +74,9 @@ slots-in-requires c κs = search needs
 -- src/lib.rt:221:9
 add-slots : tie.Need-add-slots Inv-loop μ-loop
 add-slots c =
-    let a = c .before .before .before .before .before .before .before .before .before .args in
     let l = c .before .before .before .before .before .before .before .loop in
-    let turn = c .before .before .before .turn in
-    let parent : ℕ → ℕ = λ u. getD (a .parents .now) u 0 in
-    let slot = turnSlot (a .p) (entry (a .table .now)) (λ v. getD (a .own .now) v 0) (l .s + 1) (l .held) in
-    let held′ : List ℕ = turn .last .1 .1 .1 .1 .1 .0 in
-    let part : List ℕ = turn .last .1 .1 .1 .1 .1 .1 .0 in
-    let turned : Turned parent slot (l .held) held′ (drop (l .at) (l .rest)) part (turn .result) =
-    subst (λ (lent : List ℕ). Turned parent slot (l .held) held′ lent part (turn .result)) (part-from (l .rest) (l .at)) (turn .ensures)
-    in
-    let next =
-    going-next (a .p) (a .parents .now) (a .table .now) (a .own .now) (a .m) (l .s) (a .held .now) (l .held) (a .rest .now) (l .rest) (l .at) (l .slots)
-    (l .inv .1) held′ part (turn .result) turned (c .slots-in .result) (c .slots-in .ensures)
-    in
-    omega (arith, next .within, next .fewer, going-long (l .inv .1))
+    let next = going-next _ _ _ _ _ _ _ _ _ _ _ _ (l .inv .1) _ _ _ (c .before .before .before .turn .ensures) _ (c .slots-in .ensures) in
+    omega (arith, next .within, next .fewer, c .before .before .before .before .before .before .before .before .before .good .1 .1 .1 .1 .1 .1 .0 .0)
 
 -- src/lib.rt:222:9
 add-s : tie.Need-add-s Inv-loop μ-loop
@@ -114,24 +89,7 @@ loop-less c = search needs
 -- src/lib.rt:218:5
 loop-again : tie.Need-loop-again Inv-loop μ-loop
 loop-again c =
-    let a = c .before .before .before .before .before .before .before .before .before .args in
-    let l = c .before .before .before .before .before .before .before .loop in
-    let turn = c .before .before .before .turn in
-    let parent : ℕ → ℕ = λ u. getD (a .parents .now) u 0 in
-    let slot = turnSlot (a .p) (entry (a .table .now)) (λ v. getD (a .own .now) v 0) (l .s + 1) (l .held) in
-    let held′ : List ℕ = turn .last .1 .1 .1 .1 .1 .0 in
-    let part : List ℕ = turn .last .1 .1 .1 .1 .1 .1 .0 in
-    let turned : Turned parent slot (l .held) held′ (drop (l .at) (l .rest)) part (turn .result) =
-    subst (λ (lent : List ℕ). Turned parent slot (l .held) held′ lent part (turn .result)) (part-from (l .rest) (l .at)) (turn .ensures)
-    in
-    let next =
-    going-next (a .p) (a .parents .now) (a .table .now) (a .own .now) (a .m) (l .s) (a .held .now) (l .held) (a .rest .now) (l .rest) (l .at) (l .slots)
-    (l .inv .1) held′ part (turn .result) turned (c .slots-in .result) (c .slots-in .ensures)
-    in (
-      search needs,
-      subst (λ (r : List ℕ). Going (a .p) parent (turns (a .p) (a .parents .now) (a .table .now) (a .own .now) (a .m) (l .s + 1) (a .held .now)) held′ (a .rest .now) r (l .at + turn .result) (l .slots + c .slots-in .result))
-          (sym (put-behind (l .rest) part (l .at) (omega (arith, going-long (l .inv .1), l .inv .1 .within)))) next,
-    )
+    (search needs, going-next _ _ _ _ _ _ _ _ _ _ _ _ (c .before .before .before .before .before .before .before .loop .inv .1) _ _ _ (c .before .before .before .turn .ensures) _ (c .slots-in .ensures))
 
 -- src/lib.rt:203:1
 same-length : tie.Need-same-length Inv-loop μ-loop

@@ -83,17 +83,10 @@ add-at : tie.Need-add-at Inv-loop μ-loop
 add-at c =
     let a = c .before .before .before .before .before .before .before .before .before .before .before .before .args in
     let l = c .before .before .before .before .before .before .before .before .before .before .loop in
-    let made = c .before .before .before .round in
     let out = c .before .before .before .before .before .before .before .any-outside in
-    let parent : ℕ → ℕ = λ u. getD (a .parents .now) u 0 in
-    let held′ : List ℕ = made .last .1 .1 .1 .1 .1 .0 in
-    let part : List ℕ = made .last .1 .1 .1 .1 .1 .1 .0 in
-    let gone : Going (a .p) parent (roundOf (a .p) (a .parents .now) (a .table .now) (a .own .now) (a .m) (l .held)) held′ (drop (l .at) (l .rest)) part (made .result .bytes) (made .result .slots) =
-    subst (λ (lent : List ℕ). Going (a .p) parent (roundOf (a .p) (a .parents .now) (a .table .now) (a .own .now) (a .m) (l .held)) held′ lent part (made .result .bytes) (made .result .slots)) (part-from (l .rest) (l .at)) (made .ensures)
-    in
     let next =
-    going-round (a .p) (a .parents .now) (a .table .now) (a .own .now) (a .m) (l .r) (a .held .now) (l .held) (a .rest .now) (l .rest) (l .at) (l .slots) (l .inv .1)
-    (sym (out .ensures) ∙ not-false (out .result) (c .before .before .before .before .before .before .if1 .left)) held′ part (made .result .bytes) (made .result .slots) gone
+    going-round (a .p) (a .parents .now) (a .table .now) (a .own .now) (a .m) (l .r) (a .held .now) (l .held) (a .rest .now) (l .rest) (l .at) (l .slots)
+    (l .inv .1) (sym (out .ensures) ∙ not-false (out .result) (c .before .before .before .before .before .before .if1 .left)) _ _ _ _ (c .before .before .before .round .ensures)
     in
     omega (arith, next .within, c .before .before .before .before .before .before .before .before .before .before .before .before .good .1 .1 .1 .1 .1 .1 .1 .0 .0)
 
@@ -102,17 +95,10 @@ add-slots : tie.Need-add-slots Inv-loop μ-loop
 add-slots c =
     let a = c .before .before .before .before .before .before .before .before .before .before .before .before .before .args in
     let l = c .before .before .before .before .before .before .before .before .before .before .before .loop in
-    let made = c .before .before .before .before .round in
     let out = c .before .before .before .before .before .before .before .before .any-outside in
-    let parent : ℕ → ℕ = λ u. getD (a .parents .now) u 0 in
-    let held′ : List ℕ = made .last .1 .1 .1 .1 .1 .0 in
-    let part : List ℕ = made .last .1 .1 .1 .1 .1 .1 .0 in
-    let gone : Going (a .p) parent (roundOf (a .p) (a .parents .now) (a .table .now) (a .own .now) (a .m) (l .held)) held′ (drop (l .at) (l .rest)) part (made .result .bytes) (made .result .slots) =
-    subst (λ (lent : List ℕ). Going (a .p) parent (roundOf (a .p) (a .parents .now) (a .table .now) (a .own .now) (a .m) (l .held)) held′ lent part (made .result .bytes) (made .result .slots)) (part-from (l .rest) (l .at)) (made .ensures)
-    in
     let next =
-    going-round (a .p) (a .parents .now) (a .table .now) (a .own .now) (a .m) (l .r) (a .held .now) (l .held) (a .rest .now) (l .rest) (l .at) (l .slots) (l .inv .1)
-    (sym (out .ensures) ∙ not-false (out .result) (c .before .before .before .before .before .before .before .if1 .left)) held′ part (made .result .bytes) (made .result .slots) gone
+    going-round (a .p) (a .parents .now) (a .table .now) (a .own .now) (a .m) (l .r) (a .held .now) (l .held) (a .rest .now) (l .rest) (l .at) (l .slots)
+    (l .inv .1) (sym (out .ensures) ∙ not-false (out .result) (c .before .before .before .before .before .before .before .if1 .left)) _ _ _ _ (c .before .before .before .before .round .ensures)
     in
     omega (arith, next .within, next .fewer, c .before .before .before .before .before .before .before .before .before .before .before .before .before .good .1 .1 .1 .1 .1 .1 .1 .0 .0)
 
@@ -129,22 +115,12 @@ loop-again : tie.Need-loop-again Inv-loop μ-loop
 loop-again c =
     let a = c .before .before .before .before .before .before .before .before .before .before .before .before .before .args in
     let l = c .before .before .before .before .before .before .before .before .before .before .before .loop in
-    let made = c .before .before .before .before .round in
     let out = c .before .before .before .before .before .before .before .before .any-outside in
-    let parent : ℕ → ℕ = λ u. getD (a .parents .now) u 0 in
-    let held′ : List ℕ = made .last .1 .1 .1 .1 .1 .0 in
-    let part : List ℕ = made .last .1 .1 .1 .1 .1 .1 .0 in
-    let gone : Going (a .p) parent (roundOf (a .p) (a .parents .now) (a .table .now) (a .own .now) (a .m) (l .held)) held′ (drop (l .at) (l .rest)) part (made .result .bytes) (made .result .slots) =
-    subst (λ (lent : List ℕ). Going (a .p) parent (roundOf (a .p) (a .parents .now) (a .table .now) (a .own .now) (a .m) (l .held)) held′ lent part (made .result .bytes) (made .result .slots)) (part-from (l .rest) (l .at)) (made .ensures)
-    in
     let next =
-    going-round (a .p) (a .parents .now) (a .table .now) (a .own .now) (a .m) (l .r) (a .held .now) (l .held) (a .rest .now) (l .rest) (l .at) (l .slots) (l .inv .1)
-    (sym (out .ensures) ∙ not-false (out .result) (c .before .before .before .before .before .before .before .if1 .left)) held′ part (made .result .bytes) (made .result .slots) gone
-    in (
-      search needs,
-      subst (λ (r : List ℕ). Going (a .p) parent (rounds (wayBy (a .p) (a .parents .now) (a .table .now) (a .own .now) (a .m)) (l .r + 1) (from (a .held .now))) held′ (a .rest .now) r (l .at + made .result .bytes) (l .slots + made .result .slots))
-          (sym (put-behind (l .rest) part (l .at) (omega (arith, going-long (l .inv .1), l .inv .1 .within)))) next,
-    )
+    going-round (a .p) (a .parents .now) (a .table .now) (a .own .now) (a .m) (l .r) (a .held .now) (l .held) (a .rest .now) (l .rest) (l .at) (l .slots)
+    (l .inv .1) (sym (out .ensures) ∙ not-false (out .result) (c .before .before .before .before .before .before .before .if1 .left)) _ _ _ _ (c .before .before .before .before .round .ensures)
+    in
+    (search needs, next)
 
 -- src/lib.rt:244:1
 same-length-2 : tie.Need-same-length-2 Inv-loop μ-loop
