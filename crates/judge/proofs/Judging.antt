@@ -14,13 +14,13 @@ use Rattle.meaning.specs.Sheet.{twoAt, probeCount, pairCount, pairRecords, pare
 use Rattle.meaning.specs.Conflict.{entry, tableOf, conflict, conflictTable}
 use Rattle.meaning.specs.Rounds.{outside}
 use Rattle.meaning.specs.Answer.{accepted, isAccepted, given, _then_, sheetTest}
-use Rattle.meaning.specs.Judge.{Judging, slotsJudged, planJudged, judge}
+use Rattle.meaning.specs.Judge.{Judging, slotsJudged, planJudgedBy, planJudged, judge}
 use Rattle.meaning.proofs.Turns.{length-tab, getD-places}
 use Rattle.meaning.proofs.Walk.{probe-past}
 use Rattle.meaning.proofs.Accepted.{accepted-yard, then-stays, then-goes, parent-outside}
 use Rattle.sheet.specs.declared.Yard.{Yard}
 use Rattle.sheet.specs.Yard.{refusedYard, yardOf}
-use Rattle.judge.specs.Turn.{judgingFrom, Ready, planTest, refusedVerdict}
+use Rattle.judge.specs.Turn.{judgingFrom, Ready, refusedVerdict}
 use Rattle.judge.proofs.Going.{come}
 use Rattle.judge.proofs.Conserved.{total-at-start, few-packets, parents-of}
 
@@ -31,17 +31,17 @@ module _ (p : ℕ) (parent : ℕ → ℕ) (relation : ℕ → ℕ → Bool) (pac
   behind : Judging → Outcome
   behind now = (now .outcome) then given 16 (twoAt plan 0) (ltb (now .at) (length plan)) then given 17 (twoAt plan 0) (outside p (now .held))
 
-  staged : behind (come o at held) ≡ planTest p parent relation packets plan
-  unfolding planTest behind
+  staged : behind (come o at held) ≡ planJudgedBy p parent relation packets plan
+  unfolding planJudgedBy behind
   staged = ap behind (end ∙ ap₂ (λ (n : ℕ) (l : List ℕ). slotsJudged p parent relation plan n (judgingFrom 2 l)) manyIs startIs)
 
-  pub slots-decide : (o .number ≡ 0 → ⊥) → o ≡ planTest p parent relation packets plan
+  pub slots-decide : (o .number ≡ 0 → ⊥) → o ≡ planJudgedBy p parent relation packets plan
   unfolding behind
   slots-decide some = sym (then-stays o _ (ne-eqb (o .number) 0 some)) ∙ staged
 
   module _ (none : o .number ≡ 0) where
     -- 16
-    pub gives-16 : (r : Outcome) → r ≡ record { number = 16; place = many } → at < length plan → r ≡ planTest p parent relation packets plan
+    pub gives-16 : (r : Outcome) → r ≡ record { number = 16; place = many } → at < length plan → r ≡ planJudgedBy p parent relation packets plan
     unfolding behind _then_
     gives-16 r is more =
         let here : record { number = 16; place = many } ≡ behind (come o at held) =
@@ -51,7 +51,7 @@ module _ (p : ℕ) (parent : ℕ → ℕ) (relation : ℕ → ℕ → Bool) (pac
 
     module _ (all : length plan ≤ at) (left : Bool) (leftIs : left ≡ outside p held) where
       -- 17
-      pub gives-17 : (r : Outcome) → r ≡ record { number = 17; place = many } → left ≡ true → r ≡ planTest p parent relation packets plan
+      pub gives-17 : (r : Outcome) → r ≡ record { number = 17; place = many } → left ≡ true → r ≡ planJudgedBy p parent relation packets plan
       unfolding behind _then_
       gives-17 r is some =
           let here : record { number = 17; place = many } ≡ behind (come o at held) =
@@ -59,7 +59,7 @@ module _ (p : ℕ) (parent : ℕ → ℕ) (relation : ℕ → ℕ → Bool) (pac
           in
           is ∙ here ∙ staged
 
-      pub gives-0 : (r : Outcome) → r ≡ accepted → left ≡ false → r ≡ planTest p parent relation packets plan
+      pub gives-0 : (r : Outcome) → r ≡ accepted → left ≡ false → r ≡ planJudgedBy p parent relation packets plan
       unfolding behind _then_
       gives-0 r is none-left =
           let here : accepted ≡ behind (come o at held) =
@@ -71,8 +71,8 @@ module _ (p : ℕ) (parent : ℕ → ℕ) (relation : ℕ → ℕ → Bool) (pac
 abbrev yard : List ℕ → Yard
 yard s = record { outcome = sheetTest s; probes = probeCount s; parents = tab places (parentOf s); packets = tab places (packetsOf s) }
 
-meant : (s plan : List ℕ) → planTest (probeCount s) (parentOf s) (entry (conflictTable s)) (tab places (packetsOf s)) plan ≡ planJudged s plan
-unfolding planTest planJudged
+meant : (s plan : List ℕ) → planJudgedBy (probeCount s) (parentOf s) (entry (conflictTable s)) (tab places (packetsOf s)) plan ≡ planJudged s plan
+unfolding planJudgedBy planJudged
 meant s plan = refl
 
 -- the yard that the code has read is the sheet's
@@ -133,10 +133,10 @@ module _ (s : List ℕ) (y : Yard) (is : y ≡ yardOf s) where
 
     -- the plan's own tests
     pub plan-read : (table : List (List Bool)) (plan : List ℕ) → table ≡ conflictTable s
-        → planTest (y .probes) (λ u. getD (y .parents) u 0) (entry table) (y .packets) plan ≡ planJudged s plan
+        → planJudgedBy (y .probes) (λ u. getD (y .parents) u 0) (entry table) (y .packets) plan ≡ planJudged s plan
     plan-read table plan is =
-        ap₂ (λ (p : ℕ) (parent : ℕ → ℕ). planTest p parent (entry table) (y .packets) plan) probes-read parents-read
-        ∙ ap₂ (λ (t : List (List Bool)) (l : List ℕ). planTest (probeCount s) (parentOf s) (entry t) l plan) is packets-read
+        ap₂ (λ (p : ℕ) (parent : ℕ → ℕ). planJudgedBy p parent (entry table) (y .packets) plan) probes-read parents-read
+        ∙ ap₂ (λ (t : List (List Bool)) (l : List ℕ). planJudgedBy (probeCount s) (parentOf s) (entry t) l plan) is packets-read
         ∙ meant s plan
 
 -- the verdict

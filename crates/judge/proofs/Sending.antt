@@ -15,17 +15,6 @@ use Rattle.meaning.proofs.Turns.{same-or-other}
 use Rattle.meaning.proofs.Moving.{weigh, Each, Rising, Sender, moved-append, moved-keeps, length-moved, kept, in-all}
 use Rattle.judge.proofs.Tests.{each-at}
 
--- a node's packets, when one has left v, are still no more than all together
-pub less-few : (held : List ℕ) (v q most : ℕ) → length held ≡ places → v < places → q < places → weigh (λ _. 1) held ≤ most
-    → getD (set held v (getD held v 0 - 1)) q 0 ≤ most
-less-few held v q most long hv hq few =
-    ⊎-elim
-    (λ (e : q ≡ v).
-    rw e
-    (rw (getD-set-same held v (getD held v 0 - 1) 0 (omega arith)) (omega (arith, in-all held v hv))))
-    (λ (e : q ≢ v). rw (getD-set-other held v q (getD held v 0 - 1) 0 e) (omega (arith, in-all held q hq)))
-    (same-or-other q v)
-
 -- rising senders are above the ones before
 above : (lo : ℕ) (slot : List ℕ) → Rising lo slot → (i : ℕ) → i < length slot → lo < getD slot i 0
 unfolding Rising

@@ -1,18 +1,15 @@
 -- What the judge's code counts on, and how far it has come.
 use mathlib.Core.Path.{_≡_}
-use mathlib.Core.Bool.{Bool, true}
+use mathlib.Core.Bool.{true}
 use mathlib.Core.List.{List}
 use Prim.Native.Nat.{ℕ, _≤_, _<_}
-use lib.Dec.{ltb}
 use lib.ListN.{length, getD}
 use Rattle.meaning.specs.declared.Outcome.{Outcome}
 use Rattle.meaning.specs.declared.Verdict.{Verdict}
 use Rattle.meaning.specs.Words.{places}
 use Rattle.meaning.specs.Yard.{isProbe}
-use Rattle.meaning.specs.Sheet.{twoAt}
-use Rattle.meaning.specs.Rounds.{outside}
-use Rattle.meaning.specs.Answer.{accepted, given, _then_}
-use Rattle.meaning.specs.Judge.{Judging, slotsJudged}
+use Rattle.meaning.specs.Answer.{accepted}
+use Rattle.meaning.specs.Judge.{Judging}
 use Rattle.meaning.proofs.Moving.{weigh}
 use Rattle.judge.specs.declared.Judged.{Judged}
 
@@ -34,14 +31,6 @@ pub record Ready (p : ℕ) (parent : ℕ → ℕ) (held : List ℕ) : Type 0 whe
   pub parents : (v : ℕ) → isProbe p v ≡ true → parent v < places
   pub long : length held ≡ places
   pub packets : weigh (λ _. 1) held ≤ 945
-
--- "Numbers returned": the slots of a plan, then 16, then 17, for a yard as the code has it
-unfoldable pub planTest : ℕ → (ℕ → ℕ) → (ℕ → ℕ → Bool) → List ℕ → List ℕ → Outcome
-planTest p parent relation packets plan =
-    let end = slotsJudged p parent relation plan (twoAt plan 0) (judgingFrom 2 packets) in
-    (end .outcome)
-    then given 16 (twoAt plan 0) (ltb (end .at) (length plan))
-    then given 17 (twoAt plan 0) (outside p (end .held))
 
 -- "Numbers returned": the slots are 0 unless the plan is passed
 abbrev pub refusedVerdict : Outcome → Verdict

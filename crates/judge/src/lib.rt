@@ -10,10 +10,10 @@ ghost use Rattle.meaning.specs.Sheet.{twoAt};
 ghost use Rattle.meaning.specs.Conflict.{entry};
 ghost use Rattle.meaning.specs.Rounds.{holds, outside, hop, moved};
 ghost use Rattle.meaning.specs.Answer.{accepted};
-ghost use Rattle.meaning.specs.Judge.{slotTest, slotJudged, slotsJudged, judge};
+ghost use Rattle.meaning.specs.Judge.{slotTest, slotJudged, slotsJudged, judge, planJudgedBy};
 ghost use Rattle.meaning.proofs.Moving.{weigh, Rising, Sender};
 ghost use Rattle.judge.specs.Slot.{slotAt};
-ghost use Rattle.judge.specs.Turn.{Nodes, judging, judgingFrom, Ready, planTest, refusedVerdict};
+ghost use Rattle.judge.specs.Turn.{Nodes, judging, judgingFrom, Ready, refusedVerdict};
 use meaning::Outcome;
 use meaning::Probe;
 use meaning::Slot;
@@ -311,7 +311,7 @@ fn plan_test(
 ) -> Outcome
     requires two { ⌜ 2 ≤ length (now plan) ⌝ }
     requires ready { ⌜ Ready p (λ u. getD (now parents) u 0) packets ⌝ }
-    ensures { λ r. ⌜ r ≡ planTest p (λ u. getD (now (parents .entry)) u 0) (entry (now (table .entry))) packets (now (plan .entry)) ⌝ }
+    ensures { λ r. ⌜ r ≡ planJudgedBy p (λ u. getD (now (parents .entry)) u 0) (entry (now (table .entry))) packets (now (plan .entry)) ⌝ }
 {
     let many = slot_count(plan);
     let mut held = wide(packets);

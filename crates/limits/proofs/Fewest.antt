@@ -16,7 +16,7 @@ use Rattle.meaning.specs.Sheet.{twoAt, probeCount, parentOf, packetsOf, allPack
 use Rattle.meaning.specs.Conflict.{conflict, entry, conflictTable}
 use Rattle.meaning.specs.Rounds.{holds, outside, moved}
 use Rattle.meaning.specs.Answer.{accepted, isAccepted, given, _then_}
-use Rattle.meaning.specs.Judge.{Judging, nextAt, sendersAt, slotTest, slotJudged, slotsJudged, planJudged, judge}
+use Rattle.meaning.specs.Judge.{Judging, nextAt, sendersAt, slotTest, slotJudged, slotsJudged, planJudgedBy, planJudged, judge}
 use Rattle.meaning.proofs.Turns.{some-none, sum-same, getD-tab, length-tab, same-or-other}
 use Rattle.meaning.proofs.Walk.{not-both, probe-yes}
 use Rattle.meaning.proofs.Moving.{Rising, Each, weigh, weighAll, weigh-moved, kept, length-moved}
@@ -171,7 +171,7 @@ home-first s =
 
 -- the lower limit: slots of a passed plan are no fewer than packets
 pub slots-least : (s plan : List ℕ) → isAccepted (judge s plan .outcome) ≡ true → allPackets s ≤ judge s plan .slots
-unfolding judge planJudged
+unfolding judge planJudged planJudgedBy
 slots-least s plan h =
     let sheet = then-accepted _ _ h in
     let judged = then-accepted _ _ (then-accepted _ _ (sheet .1) .1) in

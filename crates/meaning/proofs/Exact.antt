@@ -21,7 +21,7 @@ use Rattle.meaning.specs.Conflict.{entry, conflictTable}
 use Rattle.meaning.specs.Plan.{twoBytes, slotBytes, planBytes}
 use Rattle.meaning.specs.Rounds.{holds, outside, moved}
 use Rattle.meaning.specs.Answer.{accepted, isAccepted, given, _then_, sheetTest}
-use Rattle.meaning.specs.Judge.{Judging, nextAt, sendersAt, slotTest, slotJudged, slotsJudged, planJudged, judge}
+use Rattle.meaning.specs.Judge.{Judging, nextAt, sendersAt, slotTest, slotJudged, slotsJudged, planJudgedBy, planJudged, judge}
 use Rattle.meaning.specs.Legal.{clash, Legal, heldAfter, Runs, heldFirst, Arrived, Good}
 use Rattle.meaning.proofs.Turns.{below-or-last, forEach-one, some-none, none-some}
 use Rattle.meaning.proofs.Walk.{not-both, probe-yes, probe-least, probe-most}
@@ -327,7 +327,7 @@ outside-none s held arrived =
 
 -- a plan that the judge passes is good; its elements are bytes, of which the first two say how many slots there are
 pub passed-good : (s plan : List ℕ) → ((k : ℕ) → getD plan k 0 < 256) → isAccepted (judge s plan .outcome) ≡ true → Good s plan
-unfolding judge planJudged
+unfolding judge planJudged planJudgedBy
 passed-good s plan bytes h =
     let sheet = then-accepted _ _ h in
     let two = then-accepted _ _ (sheet .1) in
@@ -370,7 +370,7 @@ module _ (s plan : List ℕ) (good : Good s plan) where
       ∙ run s (good .sheet) plan 0 2 (heldFirst s) (good .slots) refl (ap (drop 2) (good .written)) (good .runs)
 
   plan-passed : planJudged s plan ≡ accepted
-  unfolding planJudged last
+  unfolding planJudged planJudgedBy last
   plan-passed =
       ap
       (λ (end : Judging).

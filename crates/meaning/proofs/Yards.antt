@@ -17,7 +17,7 @@ use Rattle.meaning.specs.Conflict.{disturb, conflict, conflictTable}
 use Rattle.meaning.specs.Colour.{smallestFree, nextOf, colouredBy, probeColours, levelsConflict, levels, depth, levelColours}
 use Rattle.meaning.specs.Rounds.{Way, joined, ownersByProbe, ownersByLevel, slotOf, moved, recorded, round, rounds, byProbe, byLevel, slotsOf}
 use Rattle.meaning.specs.Answer.{_then_, inOrder, probeTest, walkTest, pairTest, countsTest, sheetTest, planTest, planAnswer, planBuffer}
-use Rattle.meaning.specs.Judge.{slotTest, slotJudged, slotsJudged, planJudged, judge, choice, handedBack}
+use Rattle.meaning.specs.Judge.{slotTest, slotJudged, slotsJudged, planJudgedBy, planJudged, judge, choice, handedBack}
 use Rattle.meaning.specs.Lister.{text, decimal, sendersText, slotLines, sheetListed, listing}
 
 -- a sheet, a plan or a buffer as document 01 writes it: two digits a byte, one space between
@@ -147,6 +147,6 @@ unfolding digit pairs hex planner verdict same true-row all-true A A-with-a-pair
     disturb conflict conflictTable smallestFree nextOf colouredBy probeColours levelsConflict levels depth levelColours
     joined ownersByProbe ownersByLevel slotOf moved recorded round rounds byProbe byLevel slotsOf
     _then_ inOrder probeTest walkTest pairTest countsTest sheetTest planTest planAnswer planBuffer
-    slotTest slotJudged slotsJudged planJudged judge choice
+    slotTest slotJudged slotsJudged planJudgedBy planJudged judge choice
     text decimal sendersText slotLines sheetListed
 proved-yards = tt

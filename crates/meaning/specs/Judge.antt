@@ -54,14 +54,18 @@ slotsJudged p parent relation plan many start =
     forEach many (λ k now. cond (isAccepted (now .outcome)) (slotJudged p parent relation plan (k + 1) now) now) start
 
 -- "Numbers returned": the slots of a plan, then 16, then 17
+unfoldable pub planJudgedBy : ℕ → (ℕ → ℕ) → (ℕ → ℕ → Bool) → List ℕ → List ℕ → Outcome
+planJudgedBy p parent relation packets plan =
+    let start : Judging = record { outcome = accepted; at = 2; held = packets } in
+    let end = slotsJudged p parent relation plan (twoAt plan 0) start in
+    (end .outcome)
+    then given 16 (twoAt plan 0) (ltb (end .at) (length plan))
+    then given 17 (twoAt plan 0) (outside p (end .held))
+
 unfoldable pub planJudged : List ℕ → List ℕ → Outcome
 planJudged s plan =
     let table = conflictTable s in
-    let start : Judging = record { outcome = accepted; at = 2; held = tab places (packetsOf s) } in
-    let end = slotsJudged (probeCount s) (parentOf s) (entry table) plan (twoAt plan 0) start in
-    (end .outcome)
-    then given 16 (twoAt plan 0) (ltb (end .at) (length plan))
-    then given 17 (twoAt plan 0) (outside (probeCount s) (end .held))
+    planJudgedBy (probeCount s) (parentOf s) (entry table) (tab places (packetsOf s)) plan
 
 -- "Numbers returned": the judge tests the sheet first; it answers number, place and slots, the last being 0 unless passed
 unfoldable pub judge : List ℕ → List ℕ → Verdict

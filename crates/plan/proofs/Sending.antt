@@ -49,14 +49,3 @@ module _ (parent : ℕ → ℕ) (test : ℕ → Bool) (p : ℕ) (held : List ℕ
 
   pub move-none : test (k + 2) ≡ false → now ≡ moved parent (probesThat (k + 1) test) held
   move-none e = ap (λ (l : List ℕ). moved parent l held) (sym (probes-pass test k e))
-
--- a node's packets, when one has left v, are still no more than all together
-pub less-few : (held : List ℕ) (v q most : ℕ) → length held ≡ places → v < places → q < places → weigh (λ _. 1) held ≤ most
-    → getD (set held v (getD held v 0 - 1)) q 0 ≤ most
-less-few held v q most long hv hq few =
-    ⊎-elim
-    (λ (e : q ≡ v).
-    rw e
-    (rw (getD-set-same held v (getD held v 0 - 1) 0 (omega arith)) (omega (arith, in-all held v hv))))
-    (λ (e : q ≢ v). rw (getD-set-other held v q (getD held v 0 - 1) 0 e) (omega (arith, in-all held q hq)))
-    (same-or-other q v)

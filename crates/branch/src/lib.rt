@@ -1,0 +1,82 @@
+// The packets of a yard and of its heaviest branch. Tables are by node; outside them every number is 0.
+ghost use mathlib.Core.Path.{_≡_};
+ghost use mathlib.Core.Bool.{cond};
+ghost use Prim.Native.Nat.{max};
+ghost use lib.ListN.{getD};
+ghost use Rattle.meaning.specs.Words.{sumProbes};
+ghost use Rattle.meaning.specs.Yard.{reaches, branchPackets, heaviestOf};
+
+// All packets of the p probes.
+pub fn all_packets(p: u8, packets: &[u8; 65]) -> u16
+    ensures { λ r. ⌜ r ≡ sumProbes p (λ v. getD (now (packets .entry)) v 0) ⌝ }
+{
+    let mut all: u16 = 0;
+    let mut k: u8 = 0;
+    while k < p {
+        all += meaning::number_at(packets, k as usize + 2) as u16;
+        k += 1;
+    }
+    all
+}
+
+// Whether the walk to parents from v comes to top, in at most so many hops.
+fn comes_to(parents: &[u8; 65], top: usize, hops: u8, v: usize) -> bool
+    ensures { λ r. ⌜ r ≡ reaches (λ u. getD (now (parents .entry)) u 0) top hops v ⌝ }
+{
+    let mut node = v;
+    let mut left = hops;
+    while 0 < left {
+        if node == top {
+            return true;
+        }
+        node = meaning::number_at(parents, node) as usize;
+        left -= 1;
+    }
+    node == top
+}
+
+// The packets that v brings to the branch of top.
+fn brought(p: u8, parents: &[u8; 65], packets: &[u8; 65], top: usize, v: usize) -> u8
+    ensures { λ r. ⌜ r ≡ cond (reaches (λ u. getD (now (parents .entry)) u 0) top p v) (getD (now (packets .entry)) v 0) 0 ⌝ }
+{
+    if comes_to(parents, top, p, v) {
+        return meaning::number_at(packets, v);
+    }
+    0
+}
+
+// The packets of the branch of top.
+fn branch(p: u8, parents: &[u8; 65], packets: &[u8; 65], top: usize) -> u16
+    ensures { λ r. ⌜ r ≡ branchPackets p (λ u. getD (now (parents .entry)) u 0) (λ v. getD (now (packets .entry)) v 0) top ⌝ }
+{
+    let mut all: u16 = 0;
+    let mut k: u8 = 0;
+    while k < p {
+        all += brought(p, parents, packets, top, k as usize + 2) as u16;
+        k += 1;
+    }
+    all
+}
+
+// The larger of two numbers.
+fn larger(a: u16, b: u16) -> u16
+    ensures { λ r. ⌜ r ≡ max a b ⌝ }
+{
+    if a < b {
+        return b;
+    }
+    a
+}
+
+// The packets of the heaviest branch, 0 with no probes.
+pub fn heaviest(p: u8, parents: [u8; 65], packets: [u8; 65]) -> u16
+    ensures { λ r. ⌜ r ≡ heaviestOf p (λ v. getD parents v 0) (λ v. getD packets v 0) ⌝ }
+{
+    let mut best: u16 = 0;
+    let mut k: u8 = 0;
+    while k < p {
+        best = larger(best, branch(p, &parents, &packets, k as usize + 2));
+        k += 1;
+    }
+    best
+}

@@ -1,0 +1,24 @@
+-- The answers of document 01 as C sees them.
+use Prim.Native.Nat.{ℕ}
+use Rattle.meaning.specs.declared.Outcome.{Outcome}
+use Rattle.meaning.specs.declared.Planned.{Planned}
+use Rattle.meaning.specs.declared.Verdict.{Verdict}
+use Rattle.meaning.specs.declared.Choice.{Choice}
+use Rattle.meaning.specs.declared.Choice.the-variants.{Neither, First, Second}
+use Rattle.gateway.specs.declared.YardPlanned.{YardPlanned}
+use Rattle.gateway.specs.declared.YardVerdict.{YardVerdict}
+
+-- "Numbers returned": number, place, colours, slots and bytes written
+abbrev pub flatPlanned : Planned → YardPlanned
+flatPlanned r =
+    record { number = r .outcome .number; place = r .outcome .place; colours = r .colours; slots = r .slots; bytes = r .bytes }
+
+-- "Numbers returned": number, place and slots
+abbrev pub flatVerdict : Verdict → YardVerdict
+flatVerdict r = record { number = r .outcome .number; place = r .outcome .place; slots = r .slots }
+
+-- "Numbers returned": which plan the chooser hands back
+abbrev pub choiceNumber : Choice → ℕ
+choiceNumber Neither = 0
+choiceNumber First = 1
+choiceNumber Second = 2

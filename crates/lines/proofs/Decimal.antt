@@ -1,0 +1,31 @@
+-- A number in decimal, digit by digit: each law is a clause of `decimal`.
+-- Assumes nothing.
+use mathlib.Core.Path.{_≡_, refl, ap, _∙_}
+use mathlib.Core.List.{[], _∷_, _++_}
+use Prim.Native.Nat.{ℕ, zero, suc, _+_, _-_, _/_, _%_, _≤_, _<_}
+use native.Mathlib.Omega.{arith}
+use borrow.Author.Tests.{lt-ltb, le-ltb}
+use lib.ListN.{length, length-append}
+use Rattle.meaning.specs.Lister.{decimal}
+
+pub decimal-none : (most n : ℕ) → most ≡ 0 → decimal most n ≡ []
+unfolding decimal
+decimal-none most n e = rw e
+
+pub decimal-last : (most n : ℕ) → (most ≡ 0 → ⊥) → n < 10 → decimal most n ≡ (48 + n) ∷ []
+unfolding decimal
+decimal-last zero n ne h = absurd (ne refl)
+decimal-last (suc most) n ne h = rw (lt-ltb n 10 h)
+
+opened : (most n : ℕ) → 10 ≤ n → decimal (suc most) n ≡ decimal most (n / 10) ++ ((48 + n % 10) ∷ [])
+unfolding decimal
+opened most n h = rw (le-ltb n 10 h)
+
+pub decimal-more : (most n : ℕ) → (most ≡ 0 → ⊥) → 10 ≤ n → decimal most n ≡ decimal (most - 1) (n / 10) ++ ((48 + n % 10) ∷ [])
+decimal-more zero n ne h = absurd (ne refl)
+decimal-more (suc most) n ne h =
+    let before : most ≡ suc most - 1 = omega arith in
+    opened most n h ∙ ap (λ (k : ℕ). decimal k (n / 10) ++ ((48 + n % 10) ∷ [])) before
+
+pub length-more : (most n : ℕ) → (most ≡ 0 → ⊥) → 10 ≤ n → length (decimal most n) ≡ length (decimal (most - 1) (n / 10)) + 1
+length-more most n ne h = ap length (decimal-more most n ne h) ∙ length-append (decimal (most - 1) (n / 10)) ((48 + n % 10) ∷ [])

@@ -1,0 +1,5 @@
+-- Laws that belong to no one function.
+pub mod Putting
+pub mod Decimal
+pub mod Lined
+pub mod Senders
