@@ -11,4 +11,5 @@ pub mod MostByProbe
 pub mod Line
 pub mod OneLevel
 pub mod MostByLevel
+pub mod Attained
 pub mod Promises
