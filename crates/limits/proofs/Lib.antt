@@ -11,5 +11,8 @@ pub mod MostByProbe
 pub mod Line
 pub mod OneLevel
 pub mod MostByLevel
+pub mod Hops
+pub mod Deciding
+pub mod DecidingPlan
 pub mod Attained
 pub mod Promises

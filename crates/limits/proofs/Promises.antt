@@ -14,10 +14,13 @@ use Rattle.meaning.specs.Plan.{planBytes, front}
 use Rattle.meaning.specs.Rounds.{Way, byProbe, byLevel, slotsOf}
 use Rattle.meaning.specs.Answer.{accepted, isAccepted, sheetTest, planTest, planAnswer, planBuffer, refusedPlan}
 use Rattle.meaning.specs.Judge.{judge}
+use Rattle.meaning.specs.Lister.{sheetListed, listing}
 use Rattle.meaning.specs.Legal.{Good}
 use Rattle.meaning.proofs.Accepted.{then-accepted}
 use Rattle.meaning.proofs.Exact.{passed-good, good-passed}
 use Rattle.meaning.proofs.Own.{by-probe-passed, by-level-passed}
+use Rattle.limits.proofs.Deciding.{by-probe-decided, by-level-decided, verdict-decided, text-decided}
+use Rattle.limits.proofs.DecidingPlan.{plan-decided}
 use Rattle.limits.proofs.Fewest.{slots-least}
 use Rattle.limits.proofs.MostByProbe.{by-probe-most}
 use Rattle.limits.proofs.MostByLevel.{by-level-most}
@@ -134,3 +137,20 @@ by-level-slots s buffer ok =
 -- Demand 3: no plan that the judge passes, from anyone, has fewer slots than packets
 pub no-fewer-slots : (s plan : List ℕ) → isAccepted (judge s plan .outcome) ≡ true → allPackets s ≤ judge s plan .slots
 no-fewer-slots = slots-least
+
+-- "The lister": at most 4,162 bytes are read, which decide every answer: the lister's text, a planner's answer, a verdict
+pub bytes-decide-text : (s : List ℕ) → listing s ≡ sheetListed s
+bytes-decide-text = text-decided
+
+pub bytes-decide-by-probe : (s : List ℕ) (room : ℕ) → planAnswer (take 4162 s) (byProbe (take 4162 s)) room ≡ planAnswer s (byProbe s) room
+bytes-decide-by-probe = by-probe-decided
+
+pub bytes-decide-by-level : (s : List ℕ) (room : ℕ) → planAnswer (take 4162 s) (byLevel (take 4162 s)) room ≡ planAnswer s (byLevel s) room
+bytes-decide-by-level = by-level-decided
+
+pub bytes-decide-verdict : (s plan : List ℕ) → judge (take 4162 s) plan ≡ judge s plan
+bytes-decide-verdict = verdict-decided
+
+-- "Numbers returned": the first 96,032 bytes of a plan decide its verdict
+pub bytes-decide-plan : (s plan : List ℕ) → ((k : ℕ) → getD plan k 0 < 256) → judge s (take 96032 plan) ≡ judge s plan
+bytes-decide-plan = plan-decided

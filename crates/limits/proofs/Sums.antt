@@ -3,8 +3,8 @@
 use mathlib.Core.Path.{_≡_, refl, sym, ap, _∙_}
 use mathlib.Core.Bool.{Bool, true, false, cond}
 use mathlib.Core.Logic.{⊎-elim}
-use Prim.Native.Nat.{ℕ, zero, suc, _+_, _-_, _<_}
-use native.Mathlib.Nat.{not-suc-le-zero}
+use Prim.Native.Nat.{ℕ, zero, suc, _+_, _-_, _*_, _<_}
+use native.Mathlib.Nat.{not-suc-le-zero, mul-zero, mul-add}
 use native.Mathlib.Omega.{arith}
 use Rattle.meaning.specs.Words.{forEach, sum, sumProbes}
 use Rattle.meaning.specs.Yard.{isProbe}
@@ -28,6 +28,11 @@ pub sum-add : (n : ℕ) (f g : ℕ → ℕ) → sum n (λ k. f k + g k) ≡ sum 
 unfolding sum
 sum-add zero f g = refl
 sum-add (suc n) f g = omega (arith, sum-add n f g)
+
+pub sum-times : (n c : ℕ) (f : ℕ → ℕ) → sum n (λ k. c * f k) ≡ c * sum n f
+unfolding sum
+sum-times zero c f = sym (mul-zero c)
+sum-times (suc n) c f = ap (λ (x : ℕ). x + c * f n) (sum-times n c f) ∙ sym (mul-add c (sum n f) (f n))
 
 pub zero-either : (b : Bool) → _≡_ {A = ℕ} (cond b 0 0) 0
 zero-either true = refl

@@ -1,0 +1,103 @@
+-- The hops of an accepted sheet are at most 30,240: every level up to the deepest has a probe, so that at most 63 - j probes stand above level j; a level
+-- is the number of levels below it, and so all levels together are at most 63 + 62 + .. + 1 = 2,016, with at most 15 packets each. Assumes nothing.
+use mathlib.Core.Path.{_≡_, refl, ap}
+use mathlib.Core.Bool.{Bool, true, cond}
+use mathlib.Core.List.{List}
+use Prim.Native.Nat.{ℕ, zero, suc, _+_, _-_, _*_, _≤_, _<_}
+use native.Mathlib.Nat.{le-refl, mul-le-mul}
+use native.Mathlib.Decide.{decLt}
+use native.Mathlib.Omega.{arith}
+use lib.Dec.{leb}
+use borrow.Author.Tests.{le-leb, lt-leb}
+use Rattle.meaning.specs.Words.{sum, sumProbes}
+use Rattle.meaning.specs.Sheet.{probeCount, packetsOf, levelOf, hops}
+use Rattle.meaning.specs.Colour.{depth}
+use Rattle.meaning.specs.Answer.{isAccepted, sheetTest}
+use Rattle.meaning.proofs.Turns.{sum-same, sum-least, sum-constant}
+use Rattle.meaning.proofs.Walk.{probe-yes}
+use Rattle.meaning.proofs.Accepted.{accepted-yard}
+use Rattle.meaning.proofs.Grounds.{few-probes, level-most}
+use Rattle.meaning.proofs.Levels.{level-deep, depth-most}
+use Rattle.limits.proofs.Sums.{sum-zero, sum-swap, sum-times}
+use Rattle.limits.proofs.Line.{fromLine, line-parts, line-some, from-first}
+
+-- a level is the number of levels below it
+abbrev under : ℕ → ℕ → ℕ
+under l j = cond (leb (j + 2) (l + 1)) 1 0
+
+under-yes : (l j : ℕ) → j < l → under l j ≡ 1
+under-yes l j h = ap (λ (b : Bool). cond b 1 0) (le-leb (j + 2) (l + 1) (omega arith))
+
+under-no : (l j : ℕ) → l ≤ j → under l j ≡ 0
+under-no l j h = ap (λ (b : Bool). cond b 1 0) (lt-leb (j + 2) (l + 1) (omega arith))
+
+all-under : (l n : ℕ) → n ≤ l → sum n (under l) ≡ n
+unfolding sum
+all-under l zero h = refl
+all-under l (suc n) h = omega (arith, all-under l n (omega arith), under-yes l n (omega arith))
+
+counts : (l n : ℕ) → l ≤ n → sum n (under l) ≡ l
+unfolding sum
+counts l zero h = omega arith
+counts l (suc n) h = go (decLt n l) (counts l n)
+  where
+    go : Dec (n < l) → (l ≤ n → sum n (under l) ≡ l) → sum n (under l) + under l n ≡ l
+    go (yes k) before = omega (arith, all-under l n (omega arith), under-yes l n k)
+    go (no k) before = omega (arith, before (omega arith), under-no l n (omega arith))
+
+steps : sum 63 (λ j. 63 - j) ≡ 2016
+unfolding sum
+steps = refl
+
+module _ (s : List ℕ) (ok : isAccepted (sheetTest s) ≡ true) where
+  -- the probes above level j
+  abbrev above : ℕ → ℕ
+  above j = fromLine s ok (λ _. 1) (j + 2)
+
+  above-deepest : (j : ℕ) → depth s ≤ j → above j ≡ 0
+  above-deepest j h =
+      sum-zero (probeCount s) (λ k. under (levelOf s (k + 2)) j) (λ k hk. under-no (levelOf s (k + 2)) j (omega (arith, level-deep s ok k hk)))
+
+  above-few : (j : ℕ) → j ≤ depth s → above j + j ≤ probeCount s
+  above-few zero h = omega (arith, from-first s ok (λ _. 1), sum-constant (probeCount s) 1)
+  above-few (suc j) h =
+      let next : suc j + 2 ≡ j + 2 + 1 = omega arith in
+      omega (
+        arith,
+        above-few j (omega arith),
+        line-parts s ok (λ _. 1) (j + 2),
+        line-some s ok (λ _. 1) (λ _ _. le-refl 1) (j + 2) (probe-yes (depth s) (j + 2) (omega arith) (omega arith)),
+        ap (fromLine s ok (λ _. 1)) next,
+      )
+
+  above-most : (j : ℕ) → above j ≤ 63 - j
+  above-most j = go (decLt j (depth s))
+    where
+      go : Dec (j < depth s) → above j ≤ 63 - j
+      go (yes l) = omega (arith, above-few j (omega arith), few-probes s ok)
+      go (no l) = omega (arith, above-deepest j (omega arith))
+
+  -- all levels together
+  levels-most : sumProbes (probeCount s) (levelOf s) ≤ 2016
+  levels-most =
+      omega (
+        arith,
+        sum-same (probeCount s) (λ k. sum 63 (under (levelOf s (k + 2)))) (λ k. levelOf s (k + 2))
+            (λ k _. counts (levelOf s (k + 2)) 63 (omega (arith, level-most s ok (k + 2), few-probes s ok))),
+        sum-swap (probeCount s) 63 (λ k. under (levelOf s (k + 2))),
+        sum-least 63 above (λ j. 63 - j) (λ j _. above-most j),
+        steps,
+      )
+
+  pub hops-limit : hops s ≤ 30240
+  unfolding hops
+  hops-limit =
+      omega (
+        arith,
+        sum-least (probeCount s) (λ k. packetsOf s (k + 2) * levelOf s (k + 2)) (λ k. 15 * levelOf s (k + 2))
+            (λ k h.
+            mul-le-mul (accepted-yard s ok .probe (k + 2) (probe-yes (probeCount s) (k + 2) (omega arith) (omega arith)) .packets-most)
+            (le-refl (levelOf s (k + 2)))),
+        sum-times (probeCount s) 15 (λ k. levelOf s (k + 2)),
+        levels-most,
+      )
