@@ -1,13 +1,20 @@
-// The yard planner for gateways. Every function takes any bytes: nothing has to be tested first, and nothing is kept between calls.
-// Pointers must be valid for the length given with them; a pointer with length 0 must still not be null. The buffer lent to a planner
-// must not overlap the sheet. docs/CONTRACTS.md says exactly what each function answers.
+// The yard planner for gateways: planners, judge, chooser and lister over bytes in memory.
+//
+// Every function takes any bytes: the caller tests nothing first, nothing is kept between calls, and nothing is allocated. Every answer is a plan, a
+// verdict or a numbered refusal; docs/NUMBERS.md has the numbers in plain words, docs/CONTRACTS.md says exactly what each function answers.
+//
+// What the caller must provide, each time:
+// - a pointer that is valid for the length given with it, and not null even where the length is 0;
+// - a buffer to be written that overlaps none of the other arguments;
+// - 32 KB of stack, and 96 KB for yard_list.
 #ifndef YARD_H
 #define YARD_H
 
 #include <stddef.h>
 #include <stdint.h>
 
-// A planner's answer. number 0: planned. Else a refusal (1 to 10) at its place, with colours, slots and bytes 0 and the buffer as it was.
+// What a planner answers. Planned: number and place are 0, and the plan has so many colours, slots and bytes.
+// Refused: number is 1 to 9, place says where, and colours, slots and bytes are 0.
 typedef struct {
   uint8_t number;
   uint16_t place;
@@ -16,22 +23,30 @@ typedef struct {
   size_t bytes;
 } yard_planned;
 
-// The judge's answer. number 0: passed, with the plan's slots. Else a refusal (1 to 8, 11 to 17) at its place, with slots 0.
+// What the judge answers. Passed: number and place are 0, and the plan has so many slots.
+// Refused: number is 1 to 8 for the sheet or 11 to 17 for the plan, place says where, and slots is 0.
 typedef struct {
   uint8_t number;
   uint16_t place;
   uint16_t slots;
 } yard_verdict;
 
-// Plans by probe, or by level, into buf: on success the first `bytes` bytes are the plan, and the bytes behind them stay.
-// buf needs 2 + 2 x hops bytes, at most 60,482; a shorter one is refused with number 9.
+// Plans by probe. The caller provides a sheet and a buffer of 2 + 2 x hops bytes; 60,482 are enough for any sheet.
+// It gets the plan in the first `bytes` bytes of the buffer; the bytes behind it stay. A refusal (9: the buffer is too short) leaves the whole buffer as it was.
 yard_planned yard_by_probe(const uint8_t *sheet, size_t sheet_length, uint8_t *buf, size_t buf_length);
+
+// Plans by level; otherwise the same.
 yard_planned yard_by_level(const uint8_t *sheet, size_t sheet_length, uint8_t *buf, size_t buf_length);
 
-// Judges any plan, from anybody, against a sheet.
+// Judges a plan, from anybody, against a sheet. The caller provides both; it gets the verdict, and nothing is written.
 yard_verdict yard_judge(const uint8_t *sheet, size_t sheet_length, const uint8_t *plan, size_t plan_length);
 
-// Which of two plans is the passed one with fewer slots, the first when equal: 1 the first, 2 the second, 0 neither.
+// Chooses between two plans for a sheet. The caller gets 1 for the first, 2 for the second: the one that passes with fewer slots, the first when equal;
+// 0 where neither passes or the sheet is refused, and then the judge says why. Nothing is written.
 uint8_t yard_choose(const uint8_t *sheet, size_t sheet_length, const uint8_t *first, size_t first_length, const uint8_t *second, size_t second_length);
+
+// Lists a sheet: the plan by probe as text, or the line `refused N P`. The caller provides 302,455 bytes for the text, whatever the sheet, and gets the
+// text's length; the bytes behind it stay, and no zero byte ends it. A shorter buffer is left as it was, and the answer is 0, which no text's length is.
+size_t yard_list(const uint8_t *sheet, size_t sheet_length, uint8_t *text, size_t text_length);
 
 #endif

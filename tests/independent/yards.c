@@ -1,197 +1,85 @@
-// An independent reading of document 01, in C, compared with the proved library on random and damaged sheets and plans.
-//   yards SEED YARDS PLANS     compares; a case that differs is printed so that `yards show ..` can run it again
-//   yards show SHEET [PLAN..]  prints what both sides answer for a sheet, and for plans, given in hexadecimal
-#include "yard.h"
+// Compares the proved library with the second reading of document 01 on random and damaged sheets and plans.
+//   yards SEED PLANNINGS PLANS        compares; a case that differs is kept in files, and printed, so that it can be run again
+//   yards show SHEET [PLAN [PLAN]]    prints what both sides answer for the sheet and the plans in these files
+#include "second.h"
 #include <stdio.h>
 #include <stdlib.h>
 #include <string.h>
 
-enum { NODES = 65, MOST_SHEET = 5000, MOST_PLAN = 300000, FILL = 0xee };
+enum { NODES = 65, MOST_SHEET = 5000, MOST_PLAN = 300000, DECIDING = 96032, FILL = 0xee, ENOUGH = 200 };
 
-typedef struct { int number, place; } Outcome;
-typedef struct {
-  int probes, nodes, parent[NODES], packets[NODES], level[NODES], hops;
-  unsigned char linked[NODES][NODES], conflict[NODES][NODES];
-} Yard;
+static unsigned char sheet[MOST_SHEET], got[SECOND_TEXT + 8], want[SECOND_TEXT + 8], plan[2][MOST_PLAN], own[SECOND_ROOM];
+static long plannings, plans, listings, numbers[18];
 
-// ---- the sheet
-
-static Outcome outcome(int number, int place) { Outcome o = {number, place}; return o; }
-
-static Outcome read_sheet(const unsigned char *s, size_t len, Yard *y) {
-  memset(y, 0, sizeof *y);
-  if (len == 0) return outcome(1, 0);
-  int p = s[0], n = p + 1;
-  if (p > 63) return outcome(2, 0);
-  size_t at = 1 + 2 * (size_t)p;
-  if (len < at + 2) return outcome(1, 0);
-  int q = s[at] * 256 + s[at + 1];
-  if (q > p * (p + 1) / 2) return outcome(2, 0);
-  const unsigned char *pairs = s + at + 2;
-  size_t whole = at + 2 + 2 * (size_t)q;
-  if (len < whole) return outcome(1, 0);
-  if (len > whole) return outcome(3, 0);
-  y->probes = p, y->nodes = n;
-  for (int v = 2; v <= n; v++) {
-    y->parent[v] = s[2 * v - 3], y->packets[v] = s[2 * v - 2];
-    if (y->parent[v] == 0 || y->parent[v] > n || y->parent[v] == v) return outcome(4, v);
-    if (y->packets[v] == 0 || y->packets[v] > 15) return outcome(5, v);
-  }
-  for (int v = 2; v <= n; v++) {
-    int at_node = v, hops = 0;
-    while (at_node != 1 && hops < 1000) at_node = y->parent[at_node], hops++;
-    if (at_node != 1) return outcome(6, v);
-    y->level[v] = hops, y->hops += hops * y->packets[v];
-    y->linked[v][y->parent[v]] = y->linked[y->parent[v]][v] = 1;
-  }
-  for (int k = 0; k < q; k++) {
-    int a = pairs[2 * k], b = pairs[2 * k + 1];
-    if (a == 0 || a >= b || b > n) return outcome(7, k + 1);
-    if (k > 0 && (pairs[2 * k - 2] > a || (pairs[2 * k - 2] == a && pairs[2 * k - 1] >= b))) return outcome(8, k + 1);
-    y->linked[a][b] = y->linked[b][a] = 1;
-  }
-  for (int x = 2; x <= n; x++)
-    for (int z = 2; z <= n; z++)
-      y->conflict[x][z] = x != z && (y->parent[x] == z || y->parent[z] == x || y->linked[x][y->parent[z]] || y->linked[z][y->parent[x]]);
-  return outcome(0, 0);
-}
-
-// ---- colours: sort by falling degree, then give each the smallest colour that is free
-
-static int paint(int first, int last, unsigned char table[NODES][NODES], int *colour) {
-  int order[NODES], degree[NODES] = {0}, many = 0, used = 0;
-  for (int v = first; v <= last; v++) {
-    for (int z = first; z <= last; z++) degree[v] += table[v][z];
-    int k = many++;
-    while (k > 0 && degree[order[k - 1]] < degree[v]) order[k] = order[k - 1], k--;
-    order[k] = v, colour[v] = 0;
-  }
-  for (int k = 0; k < many; k++) {
-    int v = order[k], c = 1;
-    for (int again = 1; again;) {
-      again = 0;
-      for (int j = 0; j < k; j++)
-        if (table[v][order[j]] && colour[order[j]] == c) again = 1;
-      if (again) c++;
-    }
-    colour[v] = c;
-    if (c > used) used = c;
-  }
-  return used;
-}
-
-// ---- the two plans
-
-typedef struct { int colours, slots; size_t bytes; } Made;
-
-static int clear(const Yard *y, const unsigned char *chosen, int v) {
-  for (int z = 2; z <= y->nodes; z++)
-    if (chosen[z] && y->conflict[v][z]) return 0;
-  return 1;
-}
-
-static Made make_plan(const Yard *y, int by_level, unsigned char *out) {
-  int own[NODES] = {0}, held[NODES] = {0}, outside = 0;
-  Made made = {0, 0, 2};
-  if (by_level) {
-    unsigned char levels[NODES][NODES] = {{0}};
-    int colour[NODES] = {0}, deepest = 0;
-    for (int x = 2; x <= y->nodes; x++) {
-      if (y->level[x] > deepest) deepest = y->level[x];
-      for (int z = 2; z <= y->nodes; z++)
-        if (y->conflict[x][z] && y->level[x] != y->level[z]) levels[y->level[x]][y->level[z]] = 1;
-    }
-    made.colours = paint(1, deepest, levels, colour);
-    for (int v = 2; v <= y->nodes; v++) own[v] = colour[y->level[v]];
-  } else {
-    unsigned char table[NODES][NODES];
-    memcpy(table, y->conflict, sizeof table);
-    made.colours = paint(2, y->nodes, table, own);
-  }
-  for (int v = 2; v <= y->nodes; v++) held[v] = y->packets[v], outside += held[v];
-  while (outside > 0)
-    for (int c = 1; c <= made.colours; c++) {
-      unsigned char chosen[NODES] = {0};
-      int senders = 0;
-      for (int v = 2; v <= y->nodes; v++)
-        if (own[v] == c && held[v] > 0 && (!by_level || clear(y, chosen, v))) chosen[v] = 1, senders++;
-      if (senders == 0) continue;
-      for (int v = 2; v <= y->nodes; v++)
-        if (!chosen[v] && held[v] > 0 && clear(y, chosen, v)) chosen[v] = 1, senders++;
-      out[made.bytes++] = (unsigned char)senders;
-      for (int v = 2; v <= y->nodes; v++)
-        if (chosen[v]) out[made.bytes++] = (unsigned char)v, held[v]--;
-      for (int v = 2; v <= y->nodes; v++)
-        if (chosen[v]) {
-          if (y->parent[v] == 1) outside--;
-          else held[y->parent[v]]++;
-        }
-      made.slots++;
-    }
-  out[0] = (unsigned char)(made.slots / 256), out[1] = (unsigned char)(made.slots % 256);
-  return made;
-}
-
-static yard_planned expect_plan(const unsigned char *s, size_t len, int by_level, unsigned char *buf, size_t room) {
-  static Yard y;
-  static unsigned char plan[MOST_PLAN];
-  yard_planned r = {0};
-  Outcome o = read_sheet(s, len, &y);
-  if (o.number == 0 && room < 2 + 2 * (size_t)y.hops) o = outcome(9, 0);
-  r.number = (uint8_t)o.number, r.place = (uint16_t)o.place;
-  if (o.number) return r;
-  Made made = make_plan(&y, by_level, plan);
-  memcpy(buf, plan, made.bytes);
-  r.colours = (uint8_t)made.colours, r.slots = (uint16_t)made.slots, r.bytes = made.bytes;
-  return r;
-}
-
-// ---- the judge and the chooser
-
-static yard_verdict verdict(int number, int place, int slots) {
-  yard_verdict r = {(uint8_t)number, (uint16_t)place, (uint16_t)slots};
-  return r;
-}
-
-static yard_verdict expect_verdict(const unsigned char *s, size_t len, const unsigned char *plan, size_t size) {
-  static Yard y;
-  Outcome o = read_sheet(s, len, &y);
-  if (o.number) return verdict(o.number, o.place, 0);
-  if (size < 2) return verdict(11, 0, 0);
-  int slots = plan[0] * 256 + plan[1], held[256] = {0};
-  size_t at = 2;
-  for (int v = 2; v <= y.nodes; v++) held[v] = y.packets[v];
-  for (int k = 1; k <= slots; k++) {
-    if (at >= size || at + 1 + plan[at] > size) return verdict(11, k, 0);
-    int many = plan[at];
-    const unsigned char *who = plan + at + 1;
-    for (int i = 0; i < many; i++) if (who[i] < 2 || who[i] > y.nodes) return verdict(12, k, 0);
-    for (int i = 1; i < many; i++) if (who[i - 1] >= who[i]) return verdict(13, k, 0);
-    for (int i = 0; i < many; i++) if (held[who[i]] == 0) return verdict(14, k, 0);
-    for (int i = 0; i < many; i++)
-      for (int j = i + 1; j < many; j++) if (y.conflict[who[i]][who[j]]) return verdict(15, k, 0);
-    for (int i = 0; i < many; i++) held[who[i]]--;
-    for (int i = 0; i < many; i++) held[y.parent[who[i]]]++;
-    at += 1 + (size_t)many;
-  }
-  if (at < size) return verdict(16, slots, 0);
-  for (int v = 2; v <= y.nodes; v++) if (held[v]) return verdict(17, slots, 0);
-  return verdict(0, 0, slots);
-}
-
-static uint8_t expect_choice(yard_verdict a, yard_verdict b) {
-  int first = a.number == 0, second = b.number == 0;
-  if (first && second) return a.slots <= b.slots ? 1 : 2;
-  return first ? 1 : second ? 2 : 0;
-}
-
-// ---- random yards, damage, and the comparison
+// ---- chance
 
 static uint64_t state;
+
 static uint32_t rnd(uint32_t below) {
   state = state * 6364136223846793005u + 1442695040888963407u;
   return below ? (uint32_t)((state >> 33) % below) : 0;
 }
+
+// ---- a case that differs
+
+static void keep(const char *name, const unsigned char *bytes, size_t size) {
+  char path[64];
+  snprintf(path, sizeof path, "target/different.%s", name);
+  FILE *f = fopen(path, "wb");
+  if (f) fwrite(bytes, 1, size, f), fclose(f);
+  printf("%s, %zu bytes: ", path, size);
+  for (size_t k = 0; k < size; k++) printf("%02x", bytes[k]);
+  printf("\n");
+}
+
+static void differ(const char *what, size_t len, size_t room, size_t first, size_t second) {
+  printf("DIFFERENT: %s, buffer of %zu bytes\n", what, room);
+  keep("sheet", sheet, len), keep("first", plan[0], first), keep("second", plan[1], second);
+  printf("again: target/yards show target/different.sheet target/different.first target/different.second\n");
+  exit(1);
+}
+
+// ---- the comparisons
+
+static int same_plan(yard_planned a, yard_planned b) {
+  return a.number == b.number && a.place == b.place && a.colours == b.colours && a.slots == b.slots && a.bytes == b.bytes;
+}
+
+static int same_verdict(yard_verdict a, yard_verdict b) { return a.number == b.number && a.place == b.place && a.slots == b.slots; }
+
+static size_t compare_planner(size_t len, int by_level, size_t room) {
+  memset(got, FILL, room + 8), memset(want, FILL, room + 8);
+  yard_planned a = by_level ? yard_by_level(sheet, len, got, room) : yard_by_probe(sheet, len, got, room);
+  yard_planned b = by_level ? second_by_level(sheet, len, want, room) : second_by_probe(sheet, len, want, room);
+  plannings++, numbers[b.number]++;
+  if (!same_plan(a, b) || memcmp(got, want, room + 8)) differ(by_level ? "planner by level" : "planner by probe", len, room, 0, 0);
+  return b.bytes;
+}
+
+// The first bytes of a plan decide its verdict (docs/DECISIONS.md), so a plan that goes on is judged by them as well.
+static yard_verdict compare_judge(size_t len, int which, size_t size) {
+  yard_verdict a = yard_judge(sheet, len, plan[which], size), b = second_judge(sheet, len, plan[which], size);
+  plans++, numbers[b.number]++;
+  if (!same_verdict(a, b)) differ("judge", len, 0, which ? 0 : size, which ? size : 0);
+  if (size > DECIDING && !same_verdict(a, yard_judge(sheet, len, plan[which], DECIDING))) differ("judge of the deciding bytes", len, 0, size, 0);
+  return b;
+}
+
+static void compare_plans(size_t len, size_t first, size_t second) {
+  compare_judge(len, 0, first), compare_judge(len, 1, second);
+  if (yard_choose(sheet, len, plan[0], first, plan[1], second) != second_choose(sheet, len, plan[0], first, plan[1], second))
+    differ("chooser", len, 0, first, second);
+}
+
+static void compare_listing(size_t len, size_t room) {
+  memset(got, FILL, sizeof got), memset(want, FILL, sizeof want);
+  size_t a = yard_list(sheet, len, got, room), b = 0;
+  if (room >= SECOND_TEXT) b = second_list(sheet, len, (char *)want), want[b] = FILL;
+  listings++;
+  if (a != b || memcmp(got, want, sizeof got)) differ("lister", len, room, 0, 0);
+}
+
+// ---- random and damaged sheets
 
 static size_t random_sheet(unsigned char *s) {
   static const int sizes[] = {0, 1, 2, 3, 5, 8, 13, 21, 34, 63};
@@ -219,6 +107,7 @@ static size_t random_sheet(unsigned char *s) {
   return at;
 }
 
+// Some bytes cut, put in, taken out or changed.
 static size_t damage(unsigned char *s, size_t len, size_t most) {
   for (uint32_t k = 1 + rnd(2); k > 0; k--) {
     uint32_t how = rnd(6), at = rnd((uint32_t)len + 1);
@@ -230,92 +119,96 @@ static size_t damage(unsigned char *s, size_t len, size_t most) {
   return len;
 }
 
-static void print_hex(const char *name, const unsigned char *s, size_t len) {
-  printf("%s ", name);
-  for (size_t k = 0; k < len; k++) printf("%02x", s[k]);
-  printf("%s\n", len ? "" : "-");
-}
-
-static unsigned char sheet[MOST_SHEET], got[MOST_PLAN], want[MOST_PLAN], plan[2][MOST_PLAN];
-static long yards, plans, numbers[32];
-
-static int same_plan(yard_planned a, yard_planned b) {
-  return a.number == b.number && a.place == b.place && a.colours == b.colours && a.slots == b.slots && a.bytes == b.bytes;
-}
-
-static int same_verdict(yard_verdict a, yard_verdict b) { return a.number == b.number && a.place == b.place && a.slots == b.slots; }
-
-static void differ(const char *what, size_t len, size_t first, size_t second) {
-  printf("DIFFERENT: %s\n", what);
-  print_hex("sheet", sheet, len);
-  print_hex("first plan", plan[0], first);
-  print_hex("second plan", plan[1], second);
-  exit(1);
-}
-
-static size_t compare_planner(size_t len, int by_level, size_t room) {
-  memset(got, FILL, room + 8), memset(want, FILL, room + 8);
-  yard_planned a = by_level ? yard_by_level(sheet, len, got, room) : yard_by_probe(sheet, len, got, room);
-  yard_planned b = expect_plan(sheet, len, by_level, want, room);
-  yards++, numbers[b.number]++;
-  if (!same_plan(a, b) || memcmp(got, want, room + 8)) differ(by_level ? "planner by level" : "planner by probe", len, 0, 0);
-  return b.number ? 0 : b.bytes;
-}
-
-static void compare_plans(size_t len, size_t first, size_t second) {
-  yard_verdict a = yard_judge(sheet, len, plan[0], first), b = expect_verdict(sheet, len, plan[0], first);
-  yard_verdict c = yard_judge(sheet, len, plan[1], second), d = expect_verdict(sheet, len, plan[1], second);
-  plans += 2, numbers[b.number]++, numbers[d.number]++;
-  if (!same_verdict(a, b) || !same_verdict(c, d)) differ("judge", len, first, second);
-  if (yard_choose(sheet, len, plan[0], first, plan[1], second) != expect_choice(b, d)) differ("chooser", len, first, second);
-}
-
-static size_t needed(size_t len) {
-  static Yard y;
-  return read_sheet(sheet, len, &y).number ? rnd(40) : 2 + 2 * (size_t)y.hops;
-}
-
-static size_t random_plan(unsigned char *to, const unsigned char *from, size_t size) {
-  memcpy(to, from, size);
-  uint32_t how = rnd(8);
-  if (how == 0 && size >= 2) { // an empty slot in front
-    int slots = to[0] * 256 + to[1] + 1;
-    memmove(to + 3, to + 2, size - 2), to[2] = 0, to[0] = (unsigned char)(slots / 256), to[1] = (unsigned char)slots;
-    return size + 1;
+// A ring of two to four probes, so that their packets and those behind them never arrive.
+static void ring(unsigned char *s) {
+  uint32_t p = s[0], many = 2 + rnd(3), first = 2 + rnd(p), v = first;
+  if (p < 4) return;
+  for (; many > 1; many--) {
+    uint32_t next = 2 + rnd(p);
+    if (next == v || next == first) continue;
+    s[2 * v - 3] = (unsigned char)next, v = next;
   }
-  if (how == 1) { // 65,535 slots, most of them empty
-    size_t at = size < 2 ? 2 : size;
-    int slots = size < 2 ? 0 : to[0] * 256 + to[1];
-    while (slots < 65535) to[at++] = 0, slots++;
-    to[0] = 255, to[1] = 255;
-    return at;
-  }
-  return how < 6 ? damage(to, size, MOST_PLAN - 70000) : size;
+  if (v != first) s[2 * v - 3] = (unsigned char)first;
 }
 
-static void compare(long want_yards, long want_plans) {
-  for (long k = 0; yards < want_yards || plans < want_plans; k++) {
-    size_t len = random_sheet(sheet);
-    if (rnd(3) == 0) len = damage(sheet, len, MOST_SHEET - 4);
-    size_t room = needed(len);
+// Two pairs change places, or one stands twice.
+static void shuffle_pairs(unsigned char *s, size_t len) {
+  size_t at = 3 + 2 * (size_t)s[0], q = (len - at) / 2;
+  if (q < 2) return;
+  unsigned char *a = s + at + 2 * rnd((uint32_t)q), *b = s + at + 2 * rnd((uint32_t)q), keep[2] = {a[0], a[1]};
+  a[0] = b[0], a[1] = b[1];
+  if (rnd(2)) b[0] = keep[0], b[1] = keep[1];
+}
+
+static size_t some_sheet(void) {
+  size_t len = random_sheet(sheet);
+  uint32_t how = rnd(12);
+  if (how == 0) ring(sheet);
+  else if (how == 1) shuffle_pairs(sheet, len);
+  else if (how < 5) len = damage(sheet, len, MOST_SHEET - 4);
+  return len;
+}
+
+// ---- good and damaged plans
+
+static void put_count(unsigned char *to, int slots) { to[0] = (unsigned char)(slots / 256), to[1] = (unsigned char)slots; }
+
+static size_t empty_slot(unsigned char *to, size_t size) {
+  put_count(to, to[0] * 256 + to[1] + 1);
+  memmove(to + 3, to + 2, size - 2), to[2] = 0;
+  return size + 1;
+}
+
+// 65,535 slots: empty ones behind the plan's own, and then perhaps more bytes than any verdict needs.
+static size_t most_slots(unsigned char *to, size_t size) {
+  for (int slots = to[0] * 256 + to[1]; slots < 65535; slots++) to[size++] = 0;
+  to[0] = to[1] = 255;
+  if (rnd(4) == 0) memset(to + size, (int)rnd(3), 60000), size += 60000;
+  return size;
+}
+
+// The first slot's senders and some other number in rising order, so that two often conflict.
+static size_t crowd(unsigned char *to, size_t size, int nodes) {
+  int many = size > 2 ? to[2] : 0, more = 2 + (int)rnd((uint32_t)nodes - 1), at = 3;
+  if (many == 0) return size;
+  while (at < 3 + many && to[at] < more) at++;
+  if (at < 3 + many && to[at] == more) return size;
+  memmove(to + at + 1, to + at, size - (size_t)at), to[at] = (unsigned char)more, to[2]++;
+  return size + 1;
+}
+
+static size_t some_plan(unsigned char *to, size_t size) {
+  memcpy(to, own, size);
+  if (size < 2) size = 2, put_count(to, 0);
+  uint32_t how = rnd(9);
+  if (how == 0) return empty_slot(to, size);
+  if (how == 1) return most_slots(to, size);
+  if (how == 2) return sheet[0] ? crowd(to, size, sheet[0] + 1) : size;
+  return how < 7 ? damage(to, size, MOST_PLAN - 140000) : size;
+}
+
+static void compare(long want_plannings, long want_plans) {
+  while (plannings < want_plannings || plans < want_plans) {
+    size_t len = some_sheet(), room = second_room(sheet, len);
+    if (room == 0) room = rnd(40);
     for (int by_level = 0; by_level < 2; by_level++) {
       uint32_t off = rnd(4);
       size_t bytes = compare_planner(len, by_level, off == 0 && room > 0 ? room - 1 : off == 1 ? room + rnd(9) : room);
       if (bytes == 0 && rnd(4)) continue;
-      static unsigned char own[MOST_PLAN];
       memcpy(own, got, bytes);
       for (int more = 0; more < 2; more++) {
-        size_t first = random_plan(plan[0], own, bytes), second = random_plan(plan[1], own, bytes);
+        size_t first = some_plan(plan[0], bytes), second = some_plan(plan[1], bytes);
         compare_plans(len, first, second);
       }
     }
+    compare_listing(len, rnd(16) ? SECOND_TEXT : SECOND_TEXT - 1);
   }
 }
 
 // ---- the rows of "Yards to try" that are run and compared, by name
 
 static void named(const char *name, size_t len, size_t room) {
-  compare_planner(len, 0, room), compare_planner(len, 1, room);
+  compare_planner(len, 1, room), compare_planner(len, 0, room), compare_listing(len, SECOND_TEXT);
   yard_planned r = yard_by_probe(sheet, len, got, room);
   printf("%s: %d at %d, %d colours, %d slots, %zu bytes\n", name, r.number, r.place, r.colours, r.slots, r.bytes);
 }
@@ -333,45 +226,55 @@ static void yards_to_try(void) {
   memcpy(sheet, a, sizeof a);
   named("A with a 9-byte buffer", sizeof a, 9);
   named("A with a 10-byte buffer", sizeof a, 10);
-  named("p = 63", chain(63, 15), 60482);
-  named("p = 64", chain(64, 15), 60482);
-  named("no bytes at all", 0, 60482);
+  named("p = 63", chain(63, 15), SECOND_ROOM);
+  named("p = 64", chain(64, 15), SECOND_ROOM);
+  named("no bytes at all", 0, SECOND_ROOM);
+}
+
+// Every refusal is met often enough, or the comparison says little; 10 is never given.
+static void enough(void) {
+  for (int k = 0; k < 18; k++)
+    if (k != 10 && numbers[k] < ENOUGH) printf("number %d was met only %ld times\n", k, numbers[k]), exit(1);
 }
 
 // ---- one case again
 
-static size_t from_hex(const char *h, unsigned char *to) {
-  size_t n = 0;
-  unsigned byte;
-  while (sscanf(h, "%2x", &byte) == 1 && *h != '-') to[n++] = (unsigned char)byte, h += 2;
+static size_t load(const char *path, unsigned char *to, size_t most) {
+  FILE *f = fopen(path, "rb");
+  if (!f) printf("cannot read %s\n", path), exit(2);
+  size_t n = fread(to, 1, most, f);
+  fclose(f);
   return n;
 }
 
+static void show_plan(const char *name, yard_planned r, const unsigned char *bytes) {
+  printf("%s: %d at %d, %d colours, %d slots, %zu bytes: ", name, r.number, r.place, r.colours, r.slots, r.bytes);
+  for (size_t k = 0; k < r.bytes; k++) printf("%02x", bytes[k]);
+  printf("\n");
+}
+
 static void show(int argc, char **argv) {
-  size_t len = from_hex(argv[2], sheet), room = needed(len);
-  for (int by_level = 0; by_level < 2; by_level++) {
-    memset(got, FILL, room), memset(want, FILL, room);
-    yard_planned a = by_level ? yard_by_level(sheet, len, got, room) : yard_by_probe(sheet, len, got, room);
-    yard_planned b = expect_plan(sheet, len, by_level, want, room);
-    printf("by %s: library %d at %d, %d colours, %d slots, %zu bytes; independent %d at %d, %d colours, %d slots, %zu bytes\n", by_level ? "level" : "probe",
-           a.number, a.place, a.colours, a.slots, a.bytes, b.number, b.place, b.colours, b.slots, b.bytes);
-    print_hex("library    ", got, room), print_hex("independent", want, room);
-  }
-  for (int k = 3; k < argc; k++) {
-    size_t size = from_hex(argv[k], plan[0]);
-    yard_verdict a = yard_judge(sheet, len, plan[0], size), b = expect_verdict(sheet, len, plan[0], size);
-    printf("judge: library %d at %d, %d slots; independent %d at %d, %d slots\n", a.number, a.place, a.slots, b.number, b.place, b.slots);
+  size_t len = load(argv[2], sheet, MOST_SHEET), room = SECOND_ROOM;
+  show_plan("library by probe", yard_by_probe(sheet, len, got, room), got), show_plan("second by probe", second_by_probe(sheet, len, got, room), got);
+  show_plan("library by level", yard_by_level(sheet, len, got, room), got), show_plan("second by level", second_by_level(sheet, len, got, room), got);
+  printf("library lists:\n"), fwrite(got, 1, yard_list(sheet, len, got, SECOND_TEXT), stdout);
+  printf("second lists:\n"), fwrite(got, 1, second_list(sheet, len, (char *)got), stdout);
+  for (int k = 3; k < argc && k < 5; k++) {
+    size_t size = load(argv[k], plan[0], MOST_PLAN);
+    yard_verdict a = yard_judge(sheet, len, plan[0], size), b = second_judge(sheet, len, plan[0], size);
+    printf("%s: library %d at %d, %d slots; second %d at %d, %d slots\n", argv[k], a.number, a.place, a.slots, b.number, b.place, b.slots);
   }
 }
 
 int main(int argc, char **argv) {
   if (argc >= 3 && !strcmp(argv[1], "show")) return show(argc, argv), 0;
-  if (argc != 4) return printf("usage: yards SEED YARDS PLANS | yards show SHEET [PLAN..]\n"), 2;
+  if (argc != 4) return printf("usage: yards SEED PLANNINGS PLANS | yards show SHEET [PLAN [PLAN]]\n"), 2;
   state = strtoull(argv[1], 0, 10) * 2 + 1;
   yards_to_try();
   compare(atol(argv[2]), atol(argv[3]));
-  printf("%ld plannings and %ld judged plans agree; by number:", yards, plans);
-  for (int k = 0; k < 32; k++) if (numbers[k]) printf(" %d: %ld", k, numbers[k]);
+  if (plannings >= 40000) enough();
+  printf("%ld plannings, %ld listings and %ld judged plans agree; by number:", plannings, listings, plans);
+  for (int k = 0; k < 18; k++) printf(" %d: %ld", k, numbers[k]);
   printf("\n");
   return 0;
 }

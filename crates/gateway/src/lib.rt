@@ -1,9 +1,10 @@
-// The library for gateways: planners, judge and chooser over pointers and lengths, as include/yard.h declares them.
+// The library for gateways: planners, judge, chooser and lister over pointers and lengths, as include/yard.h declares them.
 ghost use mathlib.Core.Path.{_≡_};
 ghost use lib.ListN.{length};
 ghost use Rattle.meaning.specs.Rounds.{byProbe, byLevel};
 ghost use Rattle.meaning.specs.Answer.{planAnswer, planBuffer};
 ghost use Rattle.meaning.specs.Judge.{judge, choice};
+ghost use Rattle.listing.specs.Listed.{listedLength, listedIn};
 ghost use Rattle.gateway.specs.Flat.{flatPlanned, flatVerdict, choiceNumber};
 use meaning::Choice;
 use meaning::Planned;
@@ -91,4 +92,13 @@ pub extern "C" fn yard_choose(sheet: &[u8], first: &[u8], second: &[u8]) -> u8
         Choice::First => 1,
         Choice::Second => 2,
     }
+}
+
+// The lister's text.
+#[no_mangle]
+pub extern "C" fn yard_list(sheet: &[u8], text: &mut [u8]) -> usize
+    ensures answer { λ r. ⌜ r ≡ listedLength (now (sheet .entry)) (now (text .entry)) ⌝ }
+    ensures buffer { λ _. ⌜ now (text .exit) ≡ listedIn (now (sheet .entry)) (now (text .entry)) ⌝ }
+{
+    listing::list(sheet, text)
 }

@@ -1,0 +1,11 @@
+// The plan lister: a sheet on standard input, its plan by probe or its refusal on standard output.
+use libc::STDIN_FILENO;
+use libc::STDOUT_FILENO;
+
+fn main() {
+    let mut sheet = [0u8; 4162];
+    let n = io::read_full(STDIN_FILENO, &mut sheet);
+    let mut text = [0u8; 302455];
+    let m = listing::list(&sheet[..n], &mut text);
+    io::write_all(STDOUT_FILENO, &text[..m]);
+}

@@ -1,0 +1,40 @@
+-- `listing::first` meets its contract: the packets that are counted are those of the sheet.
+-- Assumes nothing.
+use Rattle.listing.proofs.Heading.{headed}
+use borrow.Author.Needs.{needs}
+use Rattle.listing.proofs.first.Statement.{statement}
+use Rattle.listing.proofs.first.Tie as tie
+
+read-requires : tie.Need-read-requires
+read-requires c κs = search needs
+
+all-packets-requires : tie.Need-all-packets-requires
+all-packets-requires c κs = search needs
+
+heaviest-requires : tie.Need-heaviest-requires
+heaviest-requires c κs = search needs
+
+first-line-requires : tie.Need-first-line-requires
+first-line-requires c κs = search needs
+
+same-length : tie.Need-same-length
+same-length c = search needs
+
+returns : tie.Need-returns
+returns c =
+    let start = c .before .before .before .before .before .before .before .before .before .before .before .before in
+    let yard = c .before .before .before .before .before .before .before .before .before .read in
+    let line = c .before .before .first-line in
+    headed (start .args .sheet .now) (start .pre) (yard .result) (yard .ensures) (start .args .colours) (start .args .slots) _ _ (start .args .out .now) _ _
+    (c .before .before .before .before .before .all-packets .ensures) (c .before .before .before .before .heaviest .ensures) (line .ensures .0) (line .ensures .1)
+
+pub first-spec : {M : Type 1} → statement M
+first-spec =
+    tie.close
+    (tie.spec
+    read-requires
+    all-packets-requires
+    heaviest-requires
+    first-line-requires
+    same-length
+    returns)
