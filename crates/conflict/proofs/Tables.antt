@@ -1,30 +1,49 @@
 -- Laws of marks in a table: a mark adds one pair to the relation that the table is made of.
 -- Assumes nothing.
 use mathlib.Core.Path.{_≡_, refl, sym, ap, _∙_, subst}
-use mathlib.Core.Bool.{Bool, true, false, cond, not, _&&_, _||_, and-comm, and-false, or-false, or-assoc, and-or-distrib-left}
-use mathlib.Core.List.{List, []}
+use mathlib.Core.Bool.{Bool, true, false, cond, not, _&&_, _||_, and-comm, or-comm, and-false, or-false, or-assoc, and-or-distrib-left}
+use mathlib.Core.List.{List, [], _∷_, _++_}
 use mathlib.Core.Logic.{_⊎_, inl, inr}
 use Prim.Native.Nat.{ℕ, zero, suc, _+_, _≤_, _<_}
+use native.Mathlib.Numerals.{add-one}
 use native.Mathlib.Omega.{arith}
 use borrow.Author.Tests.{lt-ltb, le-ltb, ltb-true, ltb-false, eqb-true, eqb-false, eq-eqb, ne-eqb}
 use lib.Dec.{eqb, ltb}
-use lib.ListN.{length, getD, take, set, replicate, length-set}
+use lib.ListN.{length, getD, take, set, replicate, length-set, replicate-append-replicate}
 use lib.Seq.{getD-set-same, getD-set-other, ext-getD}
 use Rattle.meaning.specs.Words.{forEach, some, someProbe, tab, places}
 use Rattle.meaning.specs.Sheet.{firstOf, secondOf, interfere}
-use Rattle.meaning.specs.Conflict.{tableOf}
+use Rattle.meaning.specs.Conflict.{tableOf, entry}
 use Rattle.meaning.specs.Colour.{levelsConflict}
 use Rattle.meaning.proofs.Turns.{forEach-one, forEach-stays, some-one, length-tab, getD-tab, tab-same, tab-full}
-use Rattle.conflict.specs.Marks.{marked, levelsMarked}
+use Rattle.conflict.specs.Marks.{rowsOf, marked, levelsMarked}
 
 -- tables of relations that agree are equal
+pub rows-same : (n : ℕ) (f g : ℕ → ℕ → Bool) → ((x : ℕ) → x < n → (y : ℕ) → y < places → f x y ≡ g x y) → rowsOf n f ≡ rowsOf n g
+rows-same n f g e = tab-same n (λ x. tab places (f x)) (λ x. tab places (g x)) (λ x hx. tab-same places (f x) (g x) (e x hx))
+
 pub table-same : (f g : ℕ → ℕ → Bool) → ((x : ℕ) → x < places → (y : ℕ) → y < places → f x y ≡ g x y) → tableOf f ≡ tableOf g
-table-same f g e = tab-same places (λ x. tab places (f x)) (λ x. tab places (g x)) (λ x hx. tab-same places (f x) (g x) (e x hx))
+table-same f g e = rows-same places f g e
+
+-- a list of equal elements
+pub all-same : {A : Type 0} (n : ℕ) (a : A) → replicate n a ≡ tab n (λ _. a)
+unfolding tab
+all-same zero a = refl
+all-same {A} (suc n) a =
+    ap (λ (k : ℕ). replicate k a) (sym (add-one n)) ∙ sym (replicate-append-replicate n 1 a) ∙ ap (λ (l : List A). l ++ (a ∷ [])) (all-same n a)
 
 -- the table of a relation that holds of none
-pub no-marks : (f : ℕ → ℕ → Bool) → ((x y : ℕ) → f x y ≡ false) → replicate places (replicate places false) ≡ tableOf f
-unfolding tab
-no-marks f none = table-same (λ x y. false) f (λ x hx y hy. sym (none x y))
+pub no-marks : (n : ℕ) (f : ℕ → ℕ → Bool) → ((x y : ℕ) → f x y ≡ false) → replicate n (replicate places false) ≡ rowsOf n f
+no-marks n f none =
+    all-same n (replicate places false) ∙ ap (λ (row : List Bool). tab n (λ _. row)) (all-same places false)
+    ∙ rows-same n (λ x y. false) f (λ x hx y hy. sym (none x y))
+
+-- a table that is made of a relation reads as the relation, where both numbers have a place
+pub entry-of : (n : ℕ) (t : List (List Bool)) (f : ℕ → ℕ → Bool) (x y : ℕ) → t ≡ rowsOf n f → x < n → y < places → entry t x y ≡ f x y
+entry-of n t f x y e hx hy =
+    ap (λ (u : List (List Bool)). entry u x y) e
+    ∙ ap (λ (row : List Bool). getD row y false) (getD-tab n (λ a. tab places (f a)) x [] hx)
+    ∙ getD-tab places (f x) y false hy
 
 -- a list that is filled from the front to its end
 pub filled : {A : Type 0} (l : List A) (i n : ℕ) (f : ℕ → A) → length l ≡ n → take i l ≡ tab i f → n ≤ i → i ≤ n → l ≡ tab n f
@@ -58,14 +77,14 @@ set-tab {A} n f i v =
         ∙ sym (getD-tab n g k v h)
 
 -- a mark of two numbers that have a place, and of two that have not both one
-pub marked-in : (t : List (List Bool)) (a b : ℕ) → a < places → b < places → marked t a b ≡ set t a (set (getD t a []) b true)
+pub marked-in : (n : ℕ) (t : List (List Bool)) (a b : ℕ) → a < n → b < places → marked n t a b ≡ set t a (set (getD t a []) b true)
 unfolding marked
-marked-in t a b ha hb = simp (lt-ltb a places ha, lt-ltb b places hb)
+marked-in n t a b ha hb = simp (lt-ltb a n ha, lt-ltb b places hb)
 
-pub marked-out : (t : List (List Bool)) (a b : ℕ) → (places ≤ a) ⊎ (places ≤ b) → marked t a b ≡ t
+pub marked-out : (n : ℕ) (t : List (List Bool)) (a b : ℕ) → (n ≤ a) ⊎ (places ≤ b) → marked n t a b ≡ t
 unfolding marked
-marked-out t a b (inl h) = simp (le-ltb a places h)
-marked-out t a b (inr h) = simp (le-ltb b places h, and-false)
+marked-out n t a b (inl h) = simp (le-ltb a n h)
+marked-out n t a b (inr h) = simp (le-ltb b places h, and-false)
 
 pick-or : (s t : Bool) → cond s true t ≡ (t || s)
 pick-or true true = refl
@@ -74,13 +93,13 @@ pick-or false true = refl
 pick-or false false = refl
 
 -- a number that has no place equals none that has one
-apart : (a x : ℕ) → ltb a places ≡ false → x < places → eqb a x ≡ false
-apart a x e h = let past : places ≤ a = ltb-false a places e in ne-eqb a x (λ q. omega arith)
+apart : (n a x : ℕ) → ltb a n ≡ false → x < n → eqb a x ≡ false
+apart n a x e h = let past : n ≤ a = ltb-false a n e in ne-eqb a x (λ q. omega arith)
 
 -- a mark adds its pair to the relation
-pub marked-table : (f : ℕ → ℕ → Bool) (a b : ℕ) → marked (tableOf f) a b ≡ tableOf (λ x y. f x y || (eqb a x && eqb b y))
+pub marked-table : (n : ℕ) (f : ℕ → ℕ → Bool) (a b : ℕ) → marked n (rowsOf n f) a b ≡ rowsOf n (λ x y. f x y || (eqb a x && eqb b y))
 unfolding marked
-marked-table f a b = go (ltb a places) refl (ltb b places) refl
+marked-table n f a b = go (ltb a n) refl (ltb b places) refl
   where
     g : ℕ → ℕ → Bool
     g x y = f x y || (eqb a x && eqb b y)
@@ -92,27 +111,32 @@ marked-table f a b = go (ltb a places) refl (ltb b places) refl
         (λ y hy. pick-or (eqb b y) (f a y) ∙ ap (λ (z : ℕ). f z y || eqb b y) (eqb-true a x e))
     row x false e = tab-same places (f x) (λ y. f x y || false) (λ y hy. sym (or-false (f x y)))
 
-    go : (s : Bool) → ltb a places ≡ s → (t : Bool) → ltb b places ≡ t
-        → cond (s && t) (set (tableOf f) a (set (getD (tableOf f) a []) b true)) (tableOf f) ≡ tableOf g
+    go : (s : Bool) → ltb a n ≡ s → (t : Bool) → ltb b places ≡ t
+        → cond (s && t) (set (rowsOf n f) a (set (getD (rowsOf n f) a []) b true)) (rowsOf n f) ≡ rowsOf n g
     go true ha true hb =
-        ap (λ (l : List Bool). set (tableOf f) a (set l b true)) (getD-tab places (λ x. tab places (f x)) a [] (ltb-true a places ha))
-        ∙ ap (set (tableOf f) a) (set-tab places (f a) b true)
-        ∙ set-tab places (λ x. tab places (f x)) a (tab places (λ y. cond (eqb b y) true (f a y)))
-        ∙ tab-same places (λ x. cond (eqb a x) (tab places (λ y. cond (eqb b y) true (f a y))) (tab places (f x))) (λ x. tab places (g x)) (λ x hx. row x (eqb a x) refl)
+        ap (λ (l : List Bool). set (rowsOf n f) a (set l b true)) (getD-tab n (λ x. tab places (f x)) a [] (ltb-true a n ha))
+        ∙ ap (set (rowsOf n f) a) (set-tab places (f a) b true)
+        ∙ set-tab n (λ x. tab places (f x)) a (tab places (λ y. cond (eqb b y) true (f a y)))
+        ∙ tab-same n (λ x. cond (eqb a x) (tab places (λ y. cond (eqb b y) true (f a y))) (tab places (f x))) (λ x. tab places (g x)) (λ x hx. row x (eqb a x) refl)
     go true ha false hb =
-        table-same f g (λ x hx y hy. sym (ap (λ (s : Bool). f x y || (eqb a x && s)) (apart b y hb hy) ∙ ap (λ (s : Bool). f x y || s) (and-false (eqb a x)) ∙ or-false (f x y)))
+        rows-same n f g (λ x hx y hy. sym (ap (λ (s : Bool). f x y || (eqb a x && s)) (apart places b y hb hy) ∙ ap (λ (s : Bool). f x y || s) (and-false (eqb a x)) ∙ or-false (f x y)))
     go false ha t hb =
-        table-same f g (λ x hx y hy. sym (ap (λ (s : Bool). f x y || (s && eqb b y)) (apart a x ha hx) ∙ or-false (f x y)))
+        rows-same n f g (λ x hx y hy. sym (ap (λ (s : Bool). f x y || (s && eqb b y)) (apart n a x ha hx) ∙ or-false (f x y)))
+
+-- no pair among no records
+pub no-record : (records : List ℕ) (x y : ℕ) → interfere records 0 y x ≡ false
+unfolding interfere some
+no-record records x y = refl
 
 -- one more record is a mark each way round
 pub record-marked : (records : List ℕ) (k : ℕ)
-    → marked (marked (tableOf (interfere records k)) (firstOf records k) (secondOf records k)) (secondOf records k) (firstOf records k)
-    ≡ tableOf (interfere records (k + 1))
+    → marked 256 (marked 256 (rowsOf 256 (λ x y. interfere records k y x)) (firstOf records k) (secondOf records k)) (secondOf records k) (firstOf records k)
+    ≡ rowsOf 256 (λ x y. interfere records (k + 1) y x)
 unfolding interfere
 record-marked records k =
-    ap (λ (t : List (List Bool)). marked t b a) (marked-table (interfere records k) a b)
-    ∙ marked-table (λ x y. interfere records k x y || (eqb a x && eqb b y)) b a
-    ∙ table-same _ (interfere records (k + 1)) (λ x hx y hy. one x y)
+    ap (λ (t : List (List Bool)). marked 256 t b a) (marked-table 256 (λ x y. interfere records k y x) a b)
+    ∙ marked-table 256 (λ x y. interfere records k y x || (eqb a x && eqb b y)) b a
+    ∙ rows-same 256 _ (λ x y. interfere records (k + 1) y x) (λ x hx y hy. one x y)
   where
     a : ℕ
     a = firstOf records k
@@ -120,22 +144,23 @@ record-marked records k =
     b : ℕ
     b = secondOf records k
 
-    one : (x y : ℕ) → (interfere records k x y || (eqb a x && eqb b y) || (eqb b x && eqb a y)) ≡ interfere records (k + 1) x y
+    one : (x y : ℕ) → (interfere records k y x || (eqb a x && eqb b y) || (eqb b x && eqb a y)) ≡ interfere records (k + 1) y x
     one x y =
-        or-assoc (interfere records k x y) (eqb a x && eqb b y) (eqb b x && eqb a y)
-        ∙ ap (λ (s : Bool). interfere records k x y || ((eqb a x && eqb b y) || s)) (and-comm (eqb b x) (eqb a y))
+        or-assoc (interfere records k y x) (eqb a x && eqb b y) (eqb b x && eqb a y)
+        ∙ ap (λ (s : Bool). interfere records k y x || s) (or-comm (eqb a x && eqb b y) (eqb b x && eqb a y))
+        ∙ ap (λ (s : Bool). interfere records k y x || (s || (eqb a x && eqb b y))) (and-comm (eqb b x) (eqb a y))
         ∙ sym (some-one k _)
 
 -- turn k of the marks of one probe: its row has the next probe, of another level; of its own level; or does not have it
 module _ (level : ℕ → ℕ) (row : ℕ → Bool) (a k : ℕ) (start : List (List Bool)) where
   turn : levelsMarked (k + 1) level row a start
-      ≡ cond (row (k + 2) && not (eqb a (level (k + 2)))) (marked (levelsMarked k level row a start) a (level (k + 2))) (levelsMarked k level row a start)
+      ≡ cond (row (k + 2) && not (eqb a (level (k + 2)))) (marked places (levelsMarked k level row a start) a (level (k + 2))) (levelsMarked k level row a start)
   unfolding levelsMarked
   turn = forEach-one k _ start
 
   pub turn-other : (t : List (List Bool)) → t ≡ levelsMarked k level row a start → row (k + 2) ≡ true → (a ≡ level (k + 2) → ⊥)
-      → marked t a (level (k + 2)) ≡ levelsMarked (k + 1) level row a start
-  turn-other t e r n = ap (λ (u : List (List Bool)). marked u a (level (k + 2))) e ∙ sym (turn ∙ simp (r, ne-eqb a (level (k + 2)) n))
+      → marked places t a (level (k + 2)) ≡ levelsMarked (k + 1) level row a start
+  turn-other t e r n = ap (λ (u : List (List Bool)). marked places u a (level (k + 2))) e ∙ sym (turn ∙ simp (r, ne-eqb a (level (k + 2)) n))
 
   pub turn-own : (t : List (List Bool)) → t ≡ levelsMarked k level row a start → row (k + 2) ≡ true → a ≡ level (k + 2)
       → t ≡ levelsMarked (k + 1) level row a start
@@ -169,19 +194,19 @@ withLevels f a met c d = f c d || (not (eqb c d) && (eqb a c && met d))
 -- what one more probe of a row adds to the relation
 module _ (f : ℕ → ℕ → Bool) (met : ℕ → Bool) (a : ℕ) where
   level-marked : (l : ℕ) (r : Bool)
-      → cond (r && not (eqb a l)) (marked (tableOf (withLevels f a met)) a l) (tableOf (withLevels f a met))
+      → cond (r && not (eqb a l)) (marked places (tableOf (withLevels f a met)) a l) (tableOf (withLevels f a met))
       ≡ tableOf (withLevels f a (λ d. met d || (eqb l d && r)))
   level-marked l true = go (eqb a l) refl
     where
       go : (m : Bool) → eqb a l ≡ m
-          → cond (true && not m) (marked (tableOf (withLevels f a met)) a l) (tableOf (withLevels f a met))
+          → cond (true && not m) (marked places (tableOf (withLevels f a met)) a l) (tableOf (withLevels f a met))
           ≡ tableOf (withLevels f a (λ d. met d || (eqb l d && true)))
       go true e =
           table-same (withLevels f a met) (withLevels f a (λ d. met d || (eqb l d && true)))
           (λ c hc d hd. own-level (f c d) (eqb c d) (eqb a c) (eqb l d) (met d)
           (λ p q. eq-eqb c d (sym (eqb-true a c p) ∙ eqb-true a l e ∙ eqb-true l d q)))
       go false e =
-          marked-table (withLevels f a met) a l
+          marked-table places (withLevels f a met) a l
           ∙ table-same (λ c d. withLevels f a met c d || (eqb a c && eqb l d)) (withLevels f a (λ d. met d || (eqb l d && true)))
           (λ c hc d hd. other-level (f c d) (eqb c d) (eqb a c) (eqb l d) (met d)
           (λ p q. ne-eqb c d (λ z. eqb-false a l e (eqb-true a c p ∙ z ∙ sym (eqb-true l d q)))))
@@ -196,7 +221,7 @@ unfolding levelsMarked forEach some
 levels-marked level row a f zero =
     table-same f _ (λ c hc d hd. sym (ap (λ (z : Bool). f c d || (not (eqb c d) && z)) (and-false (eqb a c)) ∙ ap (λ (z : Bool). f c d || z) (and-false (not (eqb c d))) ∙ or-false (f c d)))
 levels-marked level row a f (suc k) =
-    ap (λ (t : List (List Bool)). cond (row (k + 2) && not (eqb a (level (k + 2)))) (marked t a (level (k + 2))) t) (levels-marked level row a f k)
+    ap (λ (t : List (List Bool)). cond (row (k + 2) && not (eqb a (level (k + 2)))) (marked places t a (level (k + 2))) t) (levels-marked level row a f k)
     ∙ level-marked f (λ d. some k (λ k. eqb (level (k + 2)) d && row (k + 2))) a (level (k + 2)) (row (k + 2))
 
 -- two levels conflict by the first k probes of one of them

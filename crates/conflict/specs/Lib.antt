@@ -1,3 +1,3 @@
 -- What the private functions' contracts cite.
 pub mod Marks
-pub mod Given
+pub mod Heard

@@ -4,13 +4,17 @@ use mathlib.Core.List.{List, []}
 use Prim.Native.Nat.{ℕ, _+_}
 use lib.Dec.{eqb, ltb}
 use lib.ListN.{getD, set}
-use Rattle.meaning.specs.Words.{forEach, places}
+use Rattle.meaning.specs.Words.{forEach, tab, places}
 
--- a and b are related; a number that has no place changes nothing
-unfoldable pub marked : List (List Bool) → ℕ → ℕ → List (List Bool)
-marked t a b = cond (ltb a places && ltb b places) (set t a (set (getD t a []) b true)) t
+-- a table of n rows
+abbrev pub rowsOf : ℕ → (ℕ → ℕ → Bool) → List (List Bool)
+rowsOf n relation = tab n (λ x. tab places (relation x))
+
+-- a and b are related in a table of n rows; a number that has no place changes nothing
+unfoldable pub marked : ℕ → List (List Bool) → ℕ → ℕ → List (List Bool)
+marked n t a b = cond (ltb a n && ltb b places) (set t a (set (getD t a []) b true)) t
 
 -- level a is related with each other level that has a probe of the row
 unfoldable pub levelsMarked : ℕ → (ℕ → ℕ) → (ℕ → Bool) → ℕ → List (List Bool) → List (List Bool)
 levelsMarked p level row a t =
-    forEach p (λ k now. cond (row (k + 2) && not (eqb a (level (k + 2)))) (marked now a (level (k + 2))) now) t
+    forEach p (λ k now. cond (row (k + 2) && not (eqb a (level (k + 2)))) (marked places now a (level (k + 2))) now) t

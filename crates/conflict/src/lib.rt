@@ -1,15 +1,14 @@
 // Conflicts of probes and of levels, as tables with a row for each node.
 ghost use mathlib.Core.Path.{_≡_};
-ghost use mathlib.Core.Bool.{false, _&&_, _||_};
-ghost use lib.Dec.{eqb};
+ghost use mathlib.Core.Bool.{false};
+ghost use Prim.Native.Nat.{_<_};
 ghost use lib.ListN.{length, getD};
 ghost use Rattle.meaning.specs.Words.{tab, places};
-ghost use Rattle.meaning.specs.Yard.{isProbe};
 ghost use Rattle.meaning.specs.Sheet.{interfere};
-ghost use Rattle.meaning.specs.Conflict.{tableOf, entry, linked as linkedBy, disturb, conflict};
+ghost use Rattle.meaning.specs.Conflict.{tableOf, entry, conflict};
 ghost use Rattle.meaning.specs.Colour.{levelsConflict};
-ghost use Rattle.conflict.specs.Given.{Given};
-ghost use Rattle.conflict.specs.Marks.{marked, levelsMarked};
+ghost use Rattle.conflict.specs.Marks.{rowsOf, marked, levelsMarked};
+ghost use Rattle.conflict.specs.Heard.{probeAt, heardIn, heardRow, eitherWay};
 
 // The byte at a place of the records, 0 where they are shorter.
 fn byte_at(records: &[u8], at: usize) -> u8
@@ -26,164 +25,121 @@ fn number_of(list: &[u8; 65], v: usize) -> u8
     if v < 65 { list[v] } else { 0 }
 }
 
-// Two numbers are related from now on, where both have a place.
-fn mark(t: &mut [[bool; 65]; 65], a: u8, b: u8)
-    ensures { λ _. ⌜ now (t .exit) ≡ marked (now (t .entry)) a b ⌝ }
+// A number and a node are a pair from now on; a node that has no place is left out.
+fn pair(t: &mut [[bool; 65]; 256], a: u8, b: u8)
+    ensures { λ _. ⌜ now (t .exit) ≡ marked 256 (now (t .entry)) a b ⌝ }
 {
     let i = a as usize;
     let j = b as usize;
-    if i < 65 {
-        if j < 65 {
-            let mut row = t[i];
-            row[j] = true;
-            t[i] = row;
-        }
+    if j < 65 {
+        t[i][j] = true;
     }
 }
 
-// The records as a table, so that a pair is one read.
-fn pair_table(records: &[u8], q: u16) -> [[bool; 65]; 65]
-    ensures { λ r. ⌜ r ≡ tableOf (interfere (now (records .entry)) q) ⌝ }
+// The records as a table with a row for each byte, so that whatever a parent is, its pairs are one row.
+fn pair_table(records: &[u8], q: u16) -> [[bool; 65]; 256]
+    ensures { λ r. ⌜ r ≡ rowsOf 256 (λ b y. interfere (now (records .entry)) q y b) ⌝ }
 {
-    let mut t = [[false; 65]; 65];
+    let mut t = [[false; 65]; 256];
     let n = q as usize;
     let mut k: usize = 0;
     while k < n {
         let a = byte_at(records, 2 * k);
         let b = byte_at(records, 2 * k + 1);
-        mark(&mut t, a, b);
-        mark(&mut t, b, a);
+        pair(&mut t, a, b);
+        pair(&mut t, b, a);
         k += 1;
     }
     t
 }
 
-// The record a, b is the pair of x and y, either way round.
-fn is_pair(a: u8, b: u8, x: u8, y: u8) -> bool
-    ensures { λ r. ⌜ r ≡ ((eqb a x && eqb b y) || (eqb a y && eqb b x)) ⌝ }
+// The number of a probe, 0 of what is none; v - 1 is tested, since p + 1 may not fit a byte.
+fn probe_at(p: u8, v: u8) -> u8
+    ensures { λ r. ⌜ r ≡ probeAt p v ⌝ }
 {
-    (a == x) & (b == y) | (a == y) & (b == x)
-}
-
-// The records searched, for a number that has no place in a table.
-fn interferes(records: &[u8], q: u16, x: u8, y: u8) -> bool
-    ensures { λ r. ⌜ r ≡ interfere (now (records .entry)) q x y ⌝ }
-{
-    let n = q as usize;
-    let mut k: usize = 0;
-    while k < n {
-        let a = byte_at(records, 2 * k);
-        let b = byte_at(records, 2 * k + 1);
-        if is_pair(a, b, x, y) {
-            return true;
-        }
-        k += 1;
+    if v < 2 {
+        return 0;
     }
-    false
-}
-
-// x and y interfere; the table is read where both have a place.
-fn paired(pairs: &[[bool; 65]; 65], records: &[u8], q: u16, x: u8, y: u8) -> bool
-    requires { ⌜ now pairs ≡ tableOf (interfere (now records) q) ⌝ }
-    ensures { λ r. ⌜ r ≡ interfere (now (records .entry)) q x y ⌝ }
-{
-    let i = x as usize;
-    let j = y as usize;
-    if i < 65 {
-        if j < 65 {
-            return pairs[i][j];
-        }
+    if p < v - 1 {
+        return 0;
     }
-    interferes(records, q, x, y)
+    v
 }
 
-// v - 1 is tested, since p + 1 may not fit a byte.
-fn is_probe(p: u8, v: u8) -> bool
-    ensures { λ r. ⌜ r ≡ isProbe p v ⌝ }
+// The numbers of the probes, by node.
+fn probes(p: u8) -> [u8; 65]
+    ensures { λ r. ⌜ r ≡ tab places (probeAt p) ⌝ }
 {
-    2 <= v && v - 1 <= p
+    let mut out = [0u8; 65];
+    let mut v: u8 = 0;
+    while v < 65 {
+        let i = v as usize;
+        out[i] = probe_at(p, v);
+        v += 1;
+    }
+    out
 }
 
-// x and y are linked by the tree or by a pair.
-fn linked(
+// The probes but x that its parent up hears: itself, its children, its own parent and its pairs; without a branch.
+fn heard(
+    probes: &[u8; 65],
     parents: &[u8; 65],
-    pairs: &[[bool; 65]; 65],
-    records: &[u8],
-    q: u16,
+    pairs: &[bool; 65],
     x: u8,
-    y: u8,
-) -> bool
-    requires { ⌜ Given (now parents) (now pairs) (now records) q ⌝ }
-    ensures { λ r. ⌜ r ≡ linkedBy (λ v. getD (now (parents .entry)) v 0) (interfere (now (records .entry)) q) x y ⌝ }
-{
-    let a = number_of(parents, x as usize);
-    let b = number_of(parents, y as usize);
-    (a == y) | (b == x) | paired(pairs, records, q, x, y)
-}
-
-// One is the parent of the other, or linked with it.
-fn disturbs(
-    parents: &[u8; 65],
-    pairs: &[[bool; 65]; 65],
-    records: &[u8],
-    q: u16,
-    x: u8,
-    y: u8,
-) -> bool
-    requires { ⌜ Given (now parents) (now pairs) (now records) q ⌝ }
-    ensures { λ r. ⌜ r ≡ disturb (λ v. getD (now (parents .entry)) v 0) (interfere (now (records .entry)) q) x y ⌝ }
-{
-    let a = number_of(parents, x as usize);
-    let b = number_of(parents, y as usize);
-    (a == y)
-        | (b == x)
-        | linked(parents, pairs, records, q, x, b)
-        | linked(parents, pairs, records, q, y, a)
-}
-
-// Two different probes conflict; only probes send.
-fn conflicts(
-    p: u8,
-    parents: &[u8; 65],
-    pairs: &[[bool; 65]; 65],
-    records: &[u8],
-    q: u16,
-    x: u8,
-    y: u8,
-) -> bool
-    requires { ⌜ Given (now parents) (now pairs) (now records) q ⌝ }
-    ensures { λ r. ⌜ r ≡ conflict p (λ v. getD (now (parents .entry)) v 0) (interfere (now (records .entry)) q) x y ⌝ }
-{
-    if !is_probe(p, x) {
-        return false;
-    }
-    if !is_probe(p, y) {
-        return false;
-    }
-    if x == y {
-        return false;
-    }
-    disturbs(parents, pairs, records, q, x, y)
-}
-
-// The row of a node: with which probes it conflicts.
-fn row(
-    p: u8,
-    parents: &[u8; 65],
-    pairs: &[[bool; 65]; 65],
-    records: &[u8],
-    q: u16,
-    x: u8,
+    up: u8,
+    over: u8,
 ) -> [bool; 65]
-    requires { ⌜ Given (now parents) (now pairs) (now records) q ⌝ }
-    ensures { λ r. ⌜ r ≡ tab places (conflict p (λ v. getD (now (parents .entry)) v 0) (interfere (now (records .entry)) q) x) ⌝ }
+    ensures { λ r. ⌜ r ≡ tab places (heardIn (now (probes .entry)) (now (parents .entry)) (now (pairs .entry)) x up over) ⌝ }
 {
     let mut out = [false; 65];
-    let mut y: u8 = 0;
-    while y < 65 {
-        let j = y as usize;
-        out[j] = conflicts(p, parents, pairs, records, q, x, y);
-        y += 1;
+    for y in 0..65 {
+        let v = probes[y];
+        let linked = (parents[y] == up) | (over == v) | pairs[y];
+        out[y] = (v != 0) & ((x != v) & ((up == v) | linked));
+    }
+    out
+}
+
+// Whom the parent of a node hears, where the node is a probe.
+fn heard_at(
+    probes: &[u8; 65],
+    parents: &[u8; 65],
+    pairs: &[[bool; 65]; 256],
+    x: usize,
+) -> [bool; 65]
+    requires { ⌜ (x < places) × (length (now parents) ≡ places) ⌝ }
+    ensures { λ r. ⌜ r ≡ tab places (heardRow (now (probes .entry)) (now (parents .entry)) (now (pairs .entry)) x) ⌝ }
+{
+    let v = probes[x];
+    if v == 0 {
+        return [false; 65];
+    }
+    let up = number_of(parents, x);
+    let i = up as usize;
+    heard(probes, parents, &pairs[i], v, up, number_of(parents, i))
+}
+
+// Whom the parent of each probe hears.
+fn heard_table(p: u8, parents: &[u8; 65], pairs: &[[bool; 65]; 256]) -> [[bool; 65]; 65]
+    requires { ⌜ length (now parents) ≡ places ⌝ }
+    ensures { λ r. ⌜ r ≡ tableOf (heardRow (tab places (probeAt p)) (now (parents .entry)) (now (pairs .entry))) ⌝ }
+{
+    let probes = probes(p);
+    let mut t = [[false; 65]; 65];
+    for x in 0..65 {
+        t[x] = heard_at(&probes, parents, pairs, x);
+    }
+    t
+}
+
+// A node is related with whom it has in its row, and with whom has it in theirs.
+fn either(t: &[[bool; 65]; 65], x: usize) -> [bool; 65]
+    requires { ⌜ x < places ⌝ }
+    ensures { λ r. ⌜ r ≡ tab places (eitherWay (entry (now (t .entry))) x) ⌝ }
+{
+    let mut out = [false; 65];
+    for y in 0..65 {
+        out[y] = t[x][y] | t[y][x];
     }
     out
 }
@@ -193,14 +149,25 @@ pub fn table(p: u8, parents: [u8; 65], records: &[u8], q: u16) -> [[bool; 65]; 6
     ensures { λ r. ⌜ r ≡ tableOf (conflict p (λ v. getD parents v 0) (interfere (now (records .entry)) q)) ⌝ }
 {
     let pairs = pair_table(records, q);
+    let heard = heard_table(p, &parents, &pairs);
     let mut t = [[false; 65]; 65];
-    let mut x: u8 = 0;
-    while x < 65 {
-        let i = x as usize;
-        t[i] = row(p, &parents, &pairs, records, q, x);
-        x += 1;
+    for x in 0..65 {
+        t[x] = either(&heard, x);
     }
     t
+}
+
+// Two numbers are related from now on, where both have a place.
+fn mark(t: &mut [[bool; 65]; 65], a: u8, b: u8)
+    ensures { λ _. ⌜ now (t .exit) ≡ marked places (now (t .entry)) a b ⌝ }
+{
+    let i = a as usize;
+    let j = b as usize;
+    if i < 65 {
+        if j < 65 {
+            t[i][j] = true;
+        }
+    }
 }
 
 // The levels of the probes in the row of a probe are marked against its own level, a.

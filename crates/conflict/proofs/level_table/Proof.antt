@@ -20,7 +20,7 @@ abbrev μ-loop : tie.MeasureT-loop
 μ-loop p levels table t₀ n k₀ t k = p - k
 
 loop-holds : tie.Need-loop-holds Inv-loop μ-loop
-loop-holds c = (omega arith, no-marks (levelsMet 0 (c .args .p) (λ v. getD (c .args .t2) v 0) (entry (c .args .t3))) (no-levels (c .args .p) (λ v. getD (c .args .t2) v 0) (entry (c .args .t3))))
+loop-holds c = (omega arith, no-marks 65 (levelsMet 0 (c .args .p) (λ v. getD (c .args .t2) v 0) (entry (c .args .t3))) (no-levels (c .args .p) (λ v. getD (c .args .t2) v 0) (entry (c .args .t3))))
 
 add-x : tie.Need-add-x Inv-loop μ-loop
 add-x c = search needs

@@ -5,20 +5,19 @@ use mathlib.Core.Path.{_∙_, _≡_}
 use native.Mathlib.Omega.{arith}
 use borrow.Author.Needs.{needs}
 use Rattle.meaning.specs.Sheet.{interfere}
-use Rattle.meaning.specs.Conflict.{tableOf}
-use Rattle.conflict.proofs.Entries.{no-record}
-use Rattle.conflict.proofs.Tables.{no-marks, record-marked}
+use Rattle.conflict.specs.Marks.{rowsOf}
+use Rattle.conflict.proofs.Tables.{no-marks, no-record, record-marked}
 use Rattle.conflict.proofs.pair_table.Statement.{statement}
 use Rattle.conflict.proofs.pair_table.Tie as tie
 
 abbrev Inv-loop : tie.InvT-loop
-Inv-loop records q t₀ n k₀ t k = (k ≤ q) × (t ≡ tableOf (interfere records k))
+Inv-loop records q t₀ n k₀ t k = (k ≤ q) × (t ≡ rowsOf 256 (λ b y. interfere records k y b))
 
 abbrev μ-loop : tie.MeasureT-loop
 μ-loop records q t₀ n k₀ t k = q - k
 
 loop-holds : tie.Need-loop-holds Inv-loop μ-loop
-loop-holds c = (omega arith, no-marks (interfere (c .before .args .records .now) 0) (λ x y. no-record (c .before .args .records .now) x y))
+loop-holds c = (omega arith, no-marks 256 _ (no-record (c .before .args .records .now)))
 
 mul-byte-at : tie.Need-mul-byte-at Inv-loop μ-loop
 mul-byte-at c = search needs
@@ -35,11 +34,11 @@ add-byte-at c = search needs
 byte-at-requires-2 : tie.Need-byte-at-requires-2 Inv-loop μ-loop
 byte-at-requires-2 c κs = search needs
 
-mark-requires : tie.Need-mark-requires Inv-loop μ-loop
-mark-requires c κs = search needs
+pair-requires : tie.Need-pair-requires Inv-loop μ-loop
+pair-requires c κs = search needs
 
-mark-requires-2 : tie.Need-mark-requires-2 Inv-loop μ-loop
-mark-requires-2 c κs = search needs
+pair-requires-2 : tie.Need-pair-requires-2 Inv-loop μ-loop
+pair-requires-2 c κs = search needs
 
 add-k : tie.Need-add-k Inv-loop μ-loop
 add-k c = search needs
@@ -48,7 +47,7 @@ loop-less : tie.Need-loop-less Inv-loop μ-loop
 loop-less c = search needs
 
 loop-again : tie.Need-loop-again Inv-loop μ-loop
-loop-again c = (omega arith, c .mark2 .ensures ∙ cc (record-marked (c .before .before .before .before .before .before .before .before .before .args .records .now) (c .before .before .before .before .before .before .before .loop .k)))
+loop-again c = (omega arith, c .pair2 .ensures ∙ cc (record-marked (c .before .before .before .before .before .before .before .before .before .args .records .now) (c .before .before .before .before .before .before .before .loop .k)))
 
 returns : tie.Need-returns Inv-loop μ-loop
 returns c = let end : c .before .loop .k ≡ c .before .before .before .args .q = omega arith in rw end at (c .before .loop .inv .1)
@@ -65,8 +64,8 @@ pair-table-spec =
     mul-byte-at-2
     add-byte-at
     byte-at-requires-2
-    mark-requires
-    mark-requires-2
+    pair-requires
+    pair-requires-2
     add-k
     loop-less
     loop-again

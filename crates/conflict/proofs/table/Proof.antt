@@ -1,36 +1,42 @@
 -- `conflict::table` meets its contract. The invariant: the table is filled as far as the loop has come.
 -- Assumes nothing.
 use Prim.Native.Nat.{_≤_, _-_}
-use mathlib.Core.Path.{_≡_, refl}
+use mathlib.Core.Path.{_≡_, refl, _∙_}
 use native.Mathlib.Omega.{arith}
+use denote.Ref.{now}
 use borrow.Author.Needs.{needs}
+use mir.Val.{Fits}
+use mir.Syntax.{w8}
 use lib.ListN.{length, getD, take, length-set}
 use Rattle.meaning.specs.Sheet.{interfere}
-use Rattle.meaning.specs.Conflict.{conflict}
+use Rattle.meaning.specs.Conflict.{entry}
 use Rattle.meaning.specs.Words.{tab, places}
 use Rattle.meaning.proofs.Turns.{tab-next}
+use Rattle.conflict.specs.Heard.{eitherWay}
+use Rattle.conflict.proofs.Hearing.{either-way}
 use Rattle.conflict.proofs.Tables.{filled}
 use Rattle.conflict.proofs.table.Statement.{statement}
 use Rattle.conflict.proofs.table.Tie as tie
 
 abbrev Inv-loop : tie.InvT-loop
-Inv-loop p records q parents pairs t₀ x₀ t x = (x ≤ 65) × (length t ≡ 65) × (take x t ≡ tab x (λ a. tab places (conflict p (λ v. getD parents v 0) (interfere records q) a)))
+Inv-loop p records q heard t₀ x₀ t x =
+    (x ≤ 65) × (length t ≡ 65) × (take x t ≡ tab x (λ a. tab places (eitherWay (entry heard) a)))
 
 abbrev μ-loop : tie.MeasureT-loop
-μ-loop p records q parents pairs t₀ x₀ t x = 65 - x
+μ-loop p records q heard t₀ x₀ t x = 65 - x
 
 pair-table-requires : tie.Need-pair-table-requires Inv-loop μ-loop
 pair-table-requires c κs = search needs
+
+heard-table-requires : tie.Need-heard-table-requires Inv-loop μ-loop
+heard-table-requires c κs = search needs
 
 loop-holds : tie.Need-loop-holds Inv-loop μ-loop
 unfolding tab
 loop-holds c = (omega arith, refl, refl)
 
-cast-i : tie.Need-cast-i Inv-loop μ-loop
-cast-i c = search needs
-
-row-requires : tie.Need-row-requires Inv-loop μ-loop
-row-requires c κs = record { every = search needs; table = c .before .before .before .before .pair-table .ensures }
+either-requires : tie.Need-either-requires Inv-loop μ-loop
+either-requires c κs = search needs
 
 mul-t : tie.Need-mul-t Inv-loop μ-loop
 mul-t c = search needs
@@ -46,15 +52,22 @@ loop-less c = search needs
 
 loop-again : tie.Need-loop-again Inv-loop μ-loop
 loop-again c =
-    let h = c .before .before .before .before .loop in
+    let h = c .before .before .before .loop in
     let long : length (h .t) ≡ 65 = h .inv .1 in (
       omega arith,
       simp length-set (omega arith),
-      tab-next (h .t) (h .x) _ (c .row .result) (omega arith) (h .inv .2) (c .row .ensures),
+      tab-next (h .t) (h .x) _ (c .either .result) (omega arith) (h .inv .2) (c .either .ensures),
     )
 
 returns : tie.Need-returns Inv-loop μ-loop
-returns c = let h = c .before .loop in filled (h .t) (h .x) 65 _ (h .inv .1) (h .inv .2) (c .loop-test .left) (h .inv .0)
+returns c =
+    let h = c .before .loop in
+    let start = c .before .before .before .before .before .before .before in
+    filled (h .t) (h .x) 65 _ (h .inv .1) (h .inv .2) (c .loop-test .left) (h .inv .0)
+    ∙ either-way (start .args .p) (start .args .t2) (interfere (now (start .args .records)) (start .args .q)) _
+    (c .before .before .before .before .before .pair-table .ensures)
+    (λ v _. let byte : Fits w8 (getD (start .args .t2) v 0) = search needs in byte .fits)
+    _ (c .before .before .heard-table .ensures)
 
 pub table-spec : {M : Type 1} → statement M
 table-spec =
@@ -63,9 +76,9 @@ table-spec =
     Inv-loop
     μ-loop
     pair-table-requires
+    heard-table-requires
     loop-holds
-    cast-i
-    row-requires
+    either-requires
     mul-t
     array-set-from-t
     add-x
