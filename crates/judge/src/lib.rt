@@ -110,9 +110,9 @@ fn no_probe(p: u8, slot: &[u8]) -> bool
 fn not_rising(slot: &[u8]) -> bool
     ensures { λ r. ⌜ r ≡ some (length (now (slot .entry)) - 1) (λ i. leb (getD (now (slot .entry)) (i + 1) 0) (getD (now (slot .entry)) i 0)) ⌝ }
 {
-    let mut i = 0;
-    while i + 1 < slot.len() {
-        if slot[i + 1] <= slot[i] {
+    let mut i = 1;
+    while i < slot.len() {
+        if slot[i] <= slot[i - 1] {
             return true;
         }
         i += 1;
@@ -143,7 +143,7 @@ fn two_conflict(table: &[[bool; 65]; 65], slot: &[u8]) -> bool
 {
     let mut found = false;
     let mut i = 0;
-    'pairs: while i < slot.len() {
+    'pairs: while i + 1 < slot.len() {
         let x = slot[i] as usize;
         let mut j = i + 1;
         while j < slot.len() {

@@ -9,7 +9,7 @@ use lib.ListN.{length, getD}
 use Rattle.meaning.specs.Words.{some}
 use Rattle.meaning.specs.Conflict.{entry}
 use Rattle.meaning.proofs.Turns.{some-found}
-use Rattle.judge.proofs.Looking.{Looking, looking-starts, looking-on, looking-found, looking-ends, looking-above}
+use Rattle.judge.proofs.Looking.{Looking, looking-starts, looking-on, looking-found, looking-ends, looking-above, looking-last}
 use native.Mathlib.Omega.{arith}
 use borrow.Author.Needs.{needs}
 use Rattle.judge.proofs.two_conflict.Statement.{statement}
@@ -30,6 +30,9 @@ abbrev μ-pairs : tie.MeasureT-pairs
 pairs-holds : tie.Need-pairs-holds Inv-loop μ-loop Inv-pairs μ-pairs
 pairs-holds c = (search needs, looking-starts)
 
+add-pairs : tie.Need-add-pairs Inv-loop μ-loop Inv-pairs μ-pairs
+add-pairs c = search needs
+
 shared-slice-read-x : tie.Need-shared-slice-read-x Inv-loop μ-loop Inv-pairs μ-pairs
 shared-slice-read-x c = search needs
 
@@ -40,7 +43,7 @@ add-j : tie.Need-add-j Inv-loop μ-loop Inv-pairs μ-pairs
 add-j c = search needs
 
 loop-holds : tie.Need-loop-holds Inv-loop μ-loop Inv-pairs μ-pairs
-loop-holds c = (c .before .before .pairs .inv .0, search needs, looking-above _ _ _ (c .before .pairs-test .taken))
+loop-holds c = (c .before .before .pairs .inv .0, search needs, looking-above _ _ _ (search needs))
 
 shared-slice-read-y : tie.Need-shared-slice-read-y Inv-loop μ-loop Inv-pairs μ-pairs
 shared-slice-read-y c = search needs
@@ -49,10 +52,10 @@ cast-y : tie.Need-cast-y Inv-loop μ-loop Inv-pairs μ-pairs
 cast-y c = omega (arith, c .shared-slice-known2 .given (c .before .before .loop .j))
 
 mul-if1 : tie.Need-mul-if1 Inv-loop μ-loop Inv-pairs μ-pairs
-mul-if1 c = omega (arith, c .before .before .before .before .before .before .pre (c .before .before .before .before .before .pairs .i) (c .before .before .before .before .pairs-test .taken))
+mul-if1 c = omega (arith, c .before .before .before .before .before .before .pre (c .before .before .before .before .before .pairs .i) (search needs))
 
 index-1-if1 : tie.Need-index-1-if1 Inv-loop μ-loop Inv-pairs μ-pairs
-index-1-if1 c = c .before .before .before .before .before .before .pre (c .before .before .before .before .before .pairs .i) (c .before .before .before .before .pairs-test .taken)
+index-1-if1 c = c .before .before .before .before .before .before .pre (c .before .before .before .before .before .pairs .i) (search needs)
 
 index-2-if1 : tie.Need-index-2-if1 Inv-loop μ-loop Inv-pairs μ-pairs
 index-2-if1 c = c .before .before .before .before .before .before .pre (c .before .before .loop .j) (c .before .loop-test .taken)
@@ -78,17 +81,17 @@ pairs-less : tie.Need-pairs-less Inv-loop μ-loop Inv-pairs μ-pairs
 pairs-less c = search needs
 
 pairs-again : tie.Need-pairs-again Inv-loop μ-loop Inv-pairs μ-pairs
-pairs-again c = (c .before .loop .inv .0, looking-on (c .before .before .before .before .pairs .inv .1) (c .before .before .before .pairs-test .taken) (looking-ends (c .before .loop .inv .2) (c .loop-test .left)))
+pairs-again c = (c .before .loop .inv .0, looking-on (c .before .before .before .before .pairs .inv .1) (search needs) (looking-ends (c .before .loop .inv .2) (c .loop-test .left)))
 
 returns : tie.Need-returns Inv-loop μ-loop Inv-pairs μ-pairs
-returns c = c .before .pairs .inv .0 ∙ sym (looking-ends (c .before .pairs .inv .1) (c .pairs-test .left))
+returns c = c .before .pairs .inv .0 ∙ sym (looking-last _ _ _ (c .before .pairs .inv .1) (c .pairs-test .left))
 
 returns-2 : tie.Need-returns-2 Inv-loop μ-loop Inv-pairs μ-pairs
 returns-2 c =
     let l = c .before .before .before .before .loop in
     let a = c .before .before .before .before .before .before .before .before .args in
     let pairs = c .before .before .before .before .before .before .before .pairs in
-    looking-found _ _ (pairs .i) (c .before .before .before .before .before .before .pairs-test .taken)
+    looking-found _ _ (pairs .i) (search needs)
     (some-found _ (λ j. ltb (pairs .i) j && entry (a .table .now) (getD (a .slot .now) (pairs .i) 0) (getD (a .slot .now) j 0)) (l .j) (c .before .before .before .loop-test .taken)
     (ap₂ _&&_ (lt-ltb _ _ (l .inv .1)) (c .if1 .taken)))
 
@@ -101,6 +104,7 @@ two-conflict-spec =
     Inv-pairs
     μ-pairs
     pairs-holds
+    add-pairs
     shared-slice-read-x
     cast-x
     add-j
