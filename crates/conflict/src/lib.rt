@@ -8,7 +8,7 @@ ghost use Rattle.meaning.specs.Sheet.{interfere};
 ghost use Rattle.meaning.specs.Conflict.{tableOf, entry, conflict};
 ghost use Rattle.meaning.specs.Colour.{levelsConflict};
 ghost use Rattle.conflict.specs.Marks.{rowsOf, marked, levelsMarked};
-ghost use Rattle.conflict.specs.Heard.{probeAt, heardIn, heardRow, eitherWay};
+ghost use Rattle.conflict.specs.Heard.{probeAt, ofProbe, heardIn, heardRow, eitherWay};
 
 // The byte at a place of the records, 0 where they are shorter.
 fn byte_at(records: &[u8], at: usize) -> u8
@@ -120,26 +120,28 @@ fn heard_at(
 }
 
 // Whom the parent of each probe hears.
-fn heard_table(p: u8, parents: &[u8; 65], pairs: &[[bool; 65]; 256]) -> [[bool; 65]; 65]
+fn heard_table(probes: &[u8; 65], parents: &[u8; 65], pairs: &[[bool; 65]; 256]) -> [[bool; 65]; 65]
     requires { ⌜ length (now parents) ≡ places ⌝ }
-    ensures { λ r. ⌜ r ≡ tableOf (heardRow (tab places (probeAt p)) (now (parents .entry)) (now (pairs .entry))) ⌝ }
+    ensures { λ r. ⌜ r ≡ tableOf (heardRow (now (probes .entry)) (now (parents .entry)) (now (pairs .entry))) ⌝ }
 {
-    let probes = probes(p);
     let mut t = [[false; 65]; 65];
     for x in 0..65 {
-        t[x] = heard_at(&probes, parents, pairs, x);
+        t[x] = heard_at(probes, parents, pairs, x);
     }
     t
 }
 
-// A node is related with whom it has in its row, and with whom has it in theirs.
-fn either(t: &[[bool; 65]; 65], x: usize) -> [bool; 65]
+// A probe conflicts with whom its parent hears, and with whose parent hears it; the rows of the others are empty at once.
+fn either(probes: &[u8; 65], heard: &[[bool; 65]; 65], x: usize) -> [bool; 65]
     requires { ⌜ x < places ⌝ }
-    ensures { λ r. ⌜ r ≡ tab places (eitherWay (entry (now (t .entry))) x) ⌝ }
+    ensures { λ r. ⌜ r ≡ tab places (ofProbe (now (probes .entry)) (eitherWay (entry (now (heard .entry)))) x) ⌝ }
 {
     let mut out = [false; 65];
+    if probes[x] == 0 {
+        return out;
+    }
     for y in 0..65 {
-        out[y] = t[x][y] | t[y][x];
+        out[y] = heard[x][y] | heard[y][x];
     }
     out
 }
@@ -148,11 +150,12 @@ fn either(t: &[[bool; 65]; 65], x: usize) -> [bool; 65]
 pub fn table(p: u8, parents: [u8; 65], records: &[u8], q: u16) -> [[bool; 65]; 65]
     ensures { λ r. ⌜ r ≡ tableOf (conflict p (λ v. getD parents v 0) (interfere (now (records .entry)) q)) ⌝ }
 {
+    let probes = probes(p);
     let pairs = pair_table(records, q);
-    let heard = heard_table(p, &parents, &pairs);
+    let heard = heard_table(&probes, &parents, &pairs);
     let mut t = [[false; 65]; 65];
     for x in 0..65 {
-        t[x] = either(&heard, x);
+        t[x] = either(&probes, &heard, x);
     }
     t
 }

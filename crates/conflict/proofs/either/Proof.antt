@@ -1,23 +1,33 @@
--- `conflict::either` meets its contract. The invariant: the row is filled as far as the loop has come.
+-- `conflict::either` meets its contract: what is no probe has an empty row. The invariant: the row is filled as far as the loop has come.
 -- Assumes nothing.
 use Prim.Native.Nat.{_≤_, _-_}
 use mathlib.Core.Path.{_≡_, refl}
 use native.Mathlib.Omega.{arith}
+use denote.Ref.{now}
 use borrow.Author.Needs.{needs}
 use lib.ListN.{length, take, length-set}
+use Rattle.meaning.specs.Conflict.{entry}
 use Rattle.meaning.specs.Words.{tab}
 use Rattle.meaning.proofs.Turns.{tab-next}
-use Rattle.meaning.specs.Conflict.{entry}
 use Rattle.conflict.specs.Heard.{eitherWay}
 use Rattle.conflict.proofs.Tables.{filled}
+use Rattle.conflict.proofs.Hearing.{no-row, own-row}
 use Rattle.conflict.proofs.either.Statement.{statement}
 use Rattle.conflict.proofs.either.Tie as tie
 
 abbrev Inv-loop : tie.InvT-loop
-Inv-loop t x out₀ y₀ out y = (y ≤ 65) × (length out ≡ 65) × (take y out ≡ tab y (eitherWay (entry t) x))
+Inv-loop probes heard x out₀ y₀ out y = (y ≤ 65) × (length out ≡ 65) × (take y out ≡ tab y (eitherWay (entry heard) x))
 
 abbrev μ-loop : tie.MeasureT-loop
-μ-loop t x out₀ y₀ out y = 65 - y
+μ-loop probes heard x out₀ y₀ out y = 65 - y
+
+element-copy-out-if1 : tie.Need-element-copy-out-if1 Inv-loop μ-loop
+element-copy-out-if1 c = search needs
+
+returns : tie.Need-returns Inv-loop μ-loop
+returns c =
+    let start = c .before .before .args in
+    no-row (now (start .probes)) (eitherWay (entry (now (start .heard)))) (start .x) (c .if1 .taken)
 
 loop-holds : tie.Need-loop-holds Inv-loop μ-loop
 unfolding tab
@@ -59,8 +69,12 @@ loop-again c =
       tab-next (h .out) (h .y) _ _ (omega arith) (h .inv .2) refl,
     )
 
-returns : tie.Need-returns Inv-loop μ-loop
-returns c = let h = c .before .loop in filled (h .out) (h .y) 65 _ (h .inv .1) (h .inv .2) (c .loop-test .left) (h .inv .0)
+returns-2 : tie.Need-returns-2 Inv-loop μ-loop
+returns-2 c =
+    let h = c .before .loop in
+    let start = c .before .before .before .before .args in
+    own-row (now (start .probes)) (eitherWay (entry (now (start .heard)))) (start .x) (h .out) (c .before .before .if1 .left)
+    (filled (h .out) (h .y) 65 _ (h .inv .1) (h .inv .2) (c .loop-test .left) (h .inv .0))
 
 pub either-spec : {M : Type 1} → statement M
 either-spec =
@@ -68,6 +82,8 @@ either-spec =
     (tie.spec
     Inv-loop
     μ-loop
+    element-copy-out-if1
+    returns
     loop-holds
     mul-out
     index-1-out
@@ -79,4 +95,4 @@ either-spec =
     add-y
     loop-less
     loop-again
-    returns)
+    returns-2)

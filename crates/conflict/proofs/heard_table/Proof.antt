@@ -1,15 +1,11 @@
 -- `conflict::heard_table` meets its contract. The invariant: the table is filled as far as the loop has come.
 -- Assumes nothing.
 use Prim.Native.Nat.{_≤_, _-_}
-use mathlib.Core.Path.{_≡_, refl, ap, _∙_}
-use mathlib.Core.List.{List}
-use Prim.Native.Nat.{ℕ}
+use mathlib.Core.Path.{_≡_, refl}
 use native.Mathlib.Omega.{arith}
-use denote.Ref.{now}
 use borrow.Author.Needs.{needs}
 use lib.ListN.{length, take, length-set}
 use Rattle.meaning.specs.Words.{tab, places}
-use Rattle.meaning.specs.Conflict.{tableOf}
 use Rattle.meaning.proofs.Turns.{tab-next}
 use Rattle.conflict.specs.Heard.{heardRow}
 use Rattle.conflict.proofs.Tables.{filled}
@@ -17,14 +13,11 @@ use Rattle.conflict.proofs.heard_table.Statement.{statement}
 use Rattle.conflict.proofs.heard_table.Tie as tie
 
 abbrev Inv-loop : tie.InvT-loop
-Inv-loop p parents pairs probes t₀ x₀ t x =
+Inv-loop probes parents pairs t₀ x₀ t x =
     (x ≤ 65) × (length t ≡ 65) × (take x t ≡ tab x (λ a. tab places (heardRow probes parents pairs a)))
 
 abbrev μ-loop : tie.MeasureT-loop
-μ-loop p parents pairs probes t₀ x₀ t x = 65 - x
-
-probes-requires : tie.Need-probes-requires Inv-loop μ-loop
-probes-requires c κs = search needs
+μ-loop probes parents pairs t₀ x₀ t x = 65 - x
 
 loop-holds : tie.Need-loop-holds Inv-loop μ-loop
 unfolding tab
@@ -47,7 +40,7 @@ loop-less c = search needs
 
 loop-again : tie.Need-loop-again Inv-loop μ-loop
 loop-again c =
-    let h = c .before .before .before .loop in
+    let h = c .before .before .loop in
     let long : length (h .t) ≡ 65 = h .inv .1 in (
       omega arith,
       simp length-set (omega arith),
@@ -55,11 +48,7 @@ loop-again c =
     )
 
 returns : tie.Need-returns Inv-loop μ-loop
-returns c =
-    let h = c .before .loop in
-    let start = c .before .before .before .args in
-    filled (h .t) (h .x) 65 _ (h .inv .1) (h .inv .2) (c .loop-test .left) (h .inv .0)
-    ∙ ap (λ (l : List ℕ). tableOf (heardRow l (now (start .parents)) (now (start .pairs)))) (c .before .before .probes .ensures)
+returns c = let h = c .before .loop in filled (h .t) (h .x) 65 _ (h .inv .1) (h .inv .2) (c .loop-test .left) (h .inv .0)
 
 pub heard-table-spec : {M : Type 1} → statement M
 heard-table-spec =
@@ -67,7 +56,6 @@ heard-table-spec =
     (tie.spec
     Inv-loop
     μ-loop
-    probes-requires
     loop-holds
     heard-at-requires
     mul-t

@@ -12,18 +12,21 @@ use Rattle.meaning.specs.Sheet.{interfere}
 use Rattle.meaning.specs.Conflict.{entry}
 use Rattle.meaning.specs.Words.{tab, places}
 use Rattle.meaning.proofs.Turns.{tab-next}
-use Rattle.conflict.specs.Heard.{eitherWay}
-use Rattle.conflict.proofs.Hearing.{either-way}
+use Rattle.conflict.specs.Heard.{ofProbe, eitherWay}
+use Rattle.conflict.proofs.Hearing.{conflict-rows}
 use Rattle.conflict.proofs.Tables.{filled}
 use Rattle.conflict.proofs.table.Statement.{statement}
 use Rattle.conflict.proofs.table.Tie as tie
 
 abbrev Inv-loop : tie.InvT-loop
-Inv-loop p records q heard t₀ x₀ t x =
-    (x ≤ 65) × (length t ≡ 65) × (take x t ≡ tab x (λ a. tab places (eitherWay (entry heard) a)))
+Inv-loop p records q probes heard t₀ x₀ t x =
+    (x ≤ 65) × (length t ≡ 65) × (take x t ≡ tab x (λ a. tab places (ofProbe probes (eitherWay (entry heard)) a)))
 
 abbrev μ-loop : tie.MeasureT-loop
-μ-loop p records q heard t₀ x₀ t x = 65 - x
+μ-loop p records q probes heard t₀ x₀ t x = 65 - x
+
+probes-requires : tie.Need-probes-requires Inv-loop μ-loop
+probes-requires c κs = search needs
 
 pair-table-requires : tie.Need-pair-table-requires Inv-loop μ-loop
 pair-table-requires c κs = search needs
@@ -52,7 +55,7 @@ loop-less c = search needs
 
 loop-again : tie.Need-loop-again Inv-loop μ-loop
 loop-again c =
-    let h = c .before .before .before .loop in
+    let h = c .before .before .before .before .loop in
     let long : length (h .t) ≡ 65 = h .inv .1 in (
       omega arith,
       simp length-set (omega arith),
@@ -62,12 +65,12 @@ loop-again c =
 returns : tie.Need-returns Inv-loop μ-loop
 returns c =
     let h = c .before .loop in
-    let start = c .before .before .before .before .before .before .before in
+    let start = c .before .before .before .before .before .before .before .before .before in
     filled (h .t) (h .x) 65 _ (h .inv .1) (h .inv .2) (c .loop-test .left) (h .inv .0)
-    ∙ either-way (start .args .p) (start .args .t2) (interfere (now (start .args .records)) (start .args .q)) _
-    (c .before .before .before .before .before .pair-table .ensures)
+    ∙ conflict-rows (start .args .p) (start .args .t2) (interfere (now (start .args .records)) (start .args .q)) _
+    (c .before .before .before .before .before .before .pair-table .ensures)
     (λ v _. let byte : Fits w8 (getD (start .args .t2) v 0) = search needs in byte .fits)
-    _ (c .before .before .heard-table .ensures)
+    _ _ (c .before .before .before .before .before .before .before .probes .ensures) (c .before .before .heard-table .ensures)
 
 pub table-spec : {M : Type 1} → statement M
 table-spec =
@@ -75,6 +78,7 @@ table-spec =
     (tie.spec
     Inv-loop
     μ-loop
+    probes-requires
     pair-table-requires
     heard-table-requires
     loop-holds
