@@ -1,51 +1,91 @@
 -- The packets of a slot move sender by sender: each still holds its packet when its turn comes, and all together stay as many.
 -- Assumes nothing.
-use mathlib.Core.Path.{_≡_, refl, sym, ap, _∙_, subst}
-use mathlib.Core.Bool.{Bool, true, false}
-use mathlib.Core.List.{List, [], _∷_, _++_}
+use mathlib.Core.Path.{_≡_, sym, ap, _∙_, subst}
+use mathlib.Core.List.{List, [], _∷_}
 use mathlib.Core.Logic.{_≢_, ⊎-elim}
-use Prim.Native.Nat.{ℕ, _+_, _-_, _≤_, _<_}
+use Prim.Native.Nat.{ℕ, zero, suc, _+_, _-_, _≤_, _<_}
+use native.Mathlib.Nat.{not-suc-le-zero}
+use native.Mathlib.Numerals.{add-one}
 use native.Mathlib.Omega.{arith}
-use lib.ListN.{length, getD, set}
-use lib.Seq.{getD-set-same, getD-set-other}
-use Rattle.meaning.specs.Words.{places, probesThat}
+use lib.ListN.{length, getD, set, take, length-take}
+use lib.Seq.{getD-set-same, getD-set-other, getD-take, take-suc, take-all}
+use Rattle.meaning.specs.Words.{places}
 use Rattle.meaning.specs.Rounds.{hop, moved}
 use Rattle.meaning.proofs.Turns.{same-or-other}
 use Rattle.meaning.proofs.Moving.{weigh, Each, Rising, Sender, moved-append, moved-keeps, length-moved, kept, in-all}
-use Rattle.meaning.proofs.Slots.{each-probe, rising-probes}
-use Rattle.plan.proofs.Writing.{probes-put, probes-pass}
 
-pub none-moved : (parent : ℕ → ℕ) (test : ℕ → Bool) (held : List ℕ) → held ≡ moved parent (probesThat 0 test) held
-unfolding moved probesThat
-none-moved parent test held = refl
+-- each of a list, told by places, and back
+each-at : (P : ℕ → Type 0) (slot : List ℕ) → ((i : ℕ) → i < length slot → P (getD slot i 0)) → Each P slot
+unfolding Each
+each-at P [] all = tt
+each-at P (v ∷ slot) all = (all 0 (omega arith), each-at P slot (λ i hi. all (suc i) (omega arith)))
 
--- what is asked of the senders among the first p probes before any of them sends
-abbrev pub Senders : (ℕ → ℕ) → (ℕ → Bool) → ℕ → List ℕ → Type 0
-Senders parent test p held = (k : ℕ) → k < p → test (k + 2) ≡ true → Sender parent held (k + 2)
+pub at-each : (P : ℕ → Type 0) (slot : List ℕ) → Each P slot → (i : ℕ) → i < length slot → P (getD slot i 0)
+unfolding Each
+at-each P [] all i h = absurd (not-suc-le-zero h)
+at-each P (v ∷ slot) all zero h = all .0
+at-each P (v ∷ slot) all (suc i) h = at-each P slot (all .1) i (omega arith)
 
-module _ (parent : ℕ → ℕ) (test : ℕ → Bool) (p : ℕ) (held : List ℕ) (long : length held ≡ places) (can : Senders parent test p held) (k : ℕ) (h : k ≤ p) where
-  -- what is held when the first k probes have had their turn
+-- rising senders are above the ones before
+above : (lo : ℕ) (slot : List ℕ) → Rising lo slot → (i : ℕ) → i < length slot → lo < getD slot i 0
+unfolding Rising
+above lo [] r i h = absurd (not-suc-le-zero h)
+above lo (v ∷ slot) r zero h = r .0
+above lo (v ∷ slot) r (suc i) h = let first : lo < v = r .0 in omega (arith, above v slot (r .1) i (omega arith))
+
+rises : (lo : ℕ) (slot : List ℕ) → Rising lo slot → (i j : ℕ) → i < j → j < length slot → getD slot i 0 < getD slot j 0
+unfolding Rising
+rises lo [] r i j hi hj = absurd (not-suc-le-zero hj)
+rises lo (v ∷ slot) r i zero hi hj = absurd (not-suc-le-zero hi)
+rises lo (v ∷ slot) r zero (suc j) hi hj = above v slot (r .1) j (omega arith)
+rises lo (v ∷ slot) r (suc i) (suc j) hi hj = rises v slot (r .1) i j (omega arith) (omega arith)
+
+rising-take : (lo : ℕ) (slot : List ℕ) (i : ℕ) → Rising lo slot → Rising lo (take i slot)
+unfolding Rising
+rising-take lo slot zero r = tt
+rising-take lo [] (suc i) r = tt
+rising-take lo (v ∷ slot) (suc i) r = (r .0, rising-take v slot i (r .1))
+
+module _ (parent : ℕ → ℕ) (slot held : List ℕ) (long : length held ≡ places) (rising : Rising 1 slot)
+    (senders : (i : ℕ) → i < length slot → Sender parent held (getD slot i 0)) (i : ℕ) where
+  -- what is held when the first i senders have sent
   abbrev now : List ℕ
-  now = moved parent (probesThat k test) held
+  now = moved parent (take i slot) held
+
+  pub none-sent : i ≡ 0 → held ≡ now
+  unfolding moved
+  none-sent e = rw e
 
   pub now-long : length now ≡ places
-  now-long = length-moved parent (probesThat k test) held ∙ long
+  now-long = length-moved parent (take i slot) held ∙ long
 
-  pub now-kept : weigh (λ _. 1) now ≡ weigh (λ _. 1) held
-  now-kept =
-      kept parent 1 (probesThat k test) held long (rising-probes k test)
-      (each-probe (Sender parent held) k test (λ j hj e. can j (omega arith) e))
+  among : i ≤ length slot → (k : ℕ) → k < length (take i slot) → (k < i) × (getD (take i slot) k 0 ≡ getD slot k 0)
+  among h k hk =
+      let before : k < i = omega (arith, length-take i slot) in
+      (before, getD-take i slot k 0 before)
 
-  -- probe k + 2 still holds its packet
-  pub still-sender : k < p → k + 2 < places → test (k + 2) ≡ true → Sender parent now (k + 2)
-  still-sender hk small e =
-      let sender = can k hk e in
-      let others : Each (λ v. k + 2 ≡ v → ⊥) (probesThat k test) = each-probe (λ v. k + 2 ≡ v → ⊥) k test (λ j hj _. omega arith) in
-      (omega (arith, sender .0, moved-keeps parent (k + 2) (probesThat k test) held long small others), sender .1, sender .2)
+  pub now-kept : i ≤ length slot → weigh (λ _. 1) now ≡ weigh (λ _. 1) held
+  now-kept h =
+      kept parent 1 (take i slot) held long (rising-take 1 slot i rising)
+      (each-at (Sender parent held) (take i slot)
+      (λ k hk. subst (λ (v : ℕ). Sender parent held v) (sym (among h k hk .1)) (senders k (omega (arith, among h k hk .0)))))
 
-  pub move-one : test (k + 2) ≡ true → hop parent (k + 2) now ≡ moved parent (probesThat (k + 1) test) held
+  -- the next sender still holds its packet
+  pub still-sender : i < length slot → Sender parent now (getD slot i 0)
+  still-sender h =
+      let sender = senders i h in
+      let others : Each (λ v. getD slot i 0 ≢ v) (take i slot) =
+      each-at (λ v. getD slot i 0 ≢ v) (take i slot)
+      (λ k hk same. let less = rises 1 slot rising k i (among (omega arith) k hk .0) h in omega (arith, among (omega arith) k hk .1, same))
+      in
+      (omega (arith, sender .0, moved-keeps parent (getD slot i 0) (take i slot) held long (sender .1) others), sender .1, sender .2)
+
+  pub send-one : i < length slot → hop parent (getD slot i 0) now ≡ moved parent (take (i + 1) slot) held
   unfolding moved
-  move-one e = sym (ap (λ (l : List ℕ). moved parent l held) (probes-put test k e) ∙ moved-append parent (probesThat k test) ((k + 2) ∷ []) held)
+  send-one h =
+      sym
+      (ap (λ (l : List ℕ). moved parent l held) (ap (λ (n : ℕ). take n slot) (add-one i) ∙ take-suc slot i 0 h)
+      ∙ moved-append parent (take i slot) (getD slot i 0 ∷ []) held)
 
-  pub move-none : test (k + 2) ≡ false → now ≡ moved parent (probesThat (k + 1) test) held
-  move-none e = ap (λ (l : List ℕ). moved parent l held) (sym (probes-pass test k e))
+  pub all-sent : length slot ≤ i → now ≡ moved parent slot held
+  all-sent h = ap (λ (l : List ℕ). moved parent l held) (take-all i slot h)

@@ -10,8 +10,8 @@ use native.Mathlib.Omega.{arith}
 use borrow.Author.Tests.{ne-eqb, ltb-true}
 use lib.Dec.{eqb, ltb}
 use native.Mathlib.Numerals.{add-one}
-use lib.ListN.{length, getD, set, replicate, length-append}
-use lib.Seq.{getD-set-same, getD-set-other}
+use lib.ListN.{length, getD, set, take, drop, replicate, length-append}
+use lib.Seq.{getD-set-same, getD-set-other, take-at}
 use Rattle.meaning.specs.Words.{forEach, some, tab, places, probesThat, someProbe}
 use Rattle.meaning.specs.Plan.{front, slotBytes}
 use Rattle.meaning.specs.Rounds.{holds, clashes, joins, joined, senders, slotOf, ownersByLevel, moved}
@@ -21,7 +21,8 @@ use Rattle.meaning.proofs.Slots.{Only, only-joined, each-probe, each-slot, each
 use Rattle.plan.specs.Turn.{blockedBy, mayFor, anyTaken, Joining, nobody, Chosen, Ready, Written, Turned, turnSlot, made}
 use Rattle.meaning.specs.Yard.{levelBy}
 use Rattle.plan.proofs.Choosing.{joining-long}
-use Rattle.plan.proofs.Writing.{probes-put, probes-grow}
+use Rattle.plan.proofs.Writing.{probes-put, probes-grow, length-front}
+use Rattle.plan.proofs.Sending.{at-each}
 
 -- nobody blocks nobody
 pub unblocked : (relation : ℕ → ℕ → Bool) → nobody ≡ blockedBy relation nobody
@@ -254,19 +255,43 @@ module _ (p : ℕ) (parent : ℕ → ℕ) (held : List ℕ) (rest : List ℕ) (r
         in
         omega (arith, bytes, subst (λ (l : List ℕ). length (slotBytes (made l)) ≤ length rest) turn-slot (turn-bytes p parent held (length rest) ready relation own s))
 
-    pub can-all : (k : ℕ) → k < p → getD chosen (k + 2) false ≡ true → Sender parent held (k + 2)
+    can-all : (k : ℕ) → k < p → getD chosen (k + 2) false ≡ true → Sender parent held (k + 2)
     can-all k h f =
         can-send p parent held (length rest) ready k h
         (only-joined p relation (holds held) owners′ (only-owners p relation own s (holds held)) (k + 2) (sym (ap (λ (l : List Bool). getD l (k + 2) false) (choice .chose e)) ∙ f))
 
-    pub turned-slot : (held′ rest′ : List ℕ) (bytes : ℕ) → held′ ≡ moved parent (senders p chosen) held → Written (senders p chosen) rest rest′ bytes
-        → Turned parent (turnSlot p relation own s held) held held′ rest rest′ bytes
-    turned-slot held′ rest′ bytes m w =
-        record {
-          moves = m ∙ ap (λ (l : List ℕ). moved parent l held) (sym turn-slot);
-          counted = w .counted ∙ add-one (length (senders p chosen)) ∙ ap length (sym wrote);
-          wrote = w .wrote ∙ ap (front rest) (sym wrote);
-        }
-      where
-        wrote : slotBytes (made (turnSlot p relation own s held)) ≡ length (senders p chosen) ∷ senders p chosen
-        wrote = ap (λ (l : List ℕ). slotBytes (made l)) turn-slot ∙ made-one (senders p chosen) not-empty
+    -- the slot, once it is written: its bytes end within the rest, and behind the count stand its senders, in rising number, that can send
+    module _ (rest′ : List ℕ) (bytes : ℕ) (w : Written (senders p chosen) rest rest′ bytes) where
+      abbrev lent : List ℕ
+      lent = take (bytes - 1) (drop 1 rest′)
+
+      pub slot-ends : bytes ≤ length rest′
+      slot-ends =
+          let stays : length rest′ ≡ length rest =
+          ap length (w .wrote) ∙ length-front rest (length (senders p chosen) ∷ senders p chosen) (omega (arith, room-for))
+          in
+          omega (arith, w .counted, room-for)
+
+      slot-lent : lent ≡ senders p chosen
+      slot-lent =
+          let many : bytes - 1 ≡ length (senders p chosen) = omega (arith, w .counted) in
+          ap₂ (λ (n : ℕ) (l : List ℕ). take n (drop 1 l)) many (w .wrote)
+          ∙ take-at (senders p chosen) (drop (suc (length (senders p chosen))) rest) (length (senders p chosen)) refl
+
+      pub may-move : Rising 1 lent × ((i : ℕ) → i < length lent → Sender parent held (getD lent i 0))
+      may-move =
+          subst (λ (l : List ℕ). Rising 1 l × ((i : ℕ) → i < length l → Sender parent held (getD l i 0))) (sym slot-lent) (
+            rising-probes p (λ v. getD chosen v false),
+            at-each (Sender parent held) (senders p chosen) (each-probe (Sender parent held) p (λ v. getD chosen v false) can-all),
+          )
+
+      pub turned-slot : (held′ : List ℕ) → held′ ≡ moved parent lent held → Turned parent (turnSlot p relation own s held) held held′ rest rest′ bytes
+      turned-slot held′ m =
+          record {
+            moves = m ∙ ap (λ (l : List ℕ). moved parent l held) (slot-lent ∙ sym turn-slot);
+            counted = w .counted ∙ add-one (length (senders p chosen)) ∙ ap length (sym wrote);
+            wrote = w .wrote ∙ ap (front rest) (sym wrote);
+          }
+        where
+          wrote : slotBytes (made (turnSlot p relation own s held)) ≡ length (senders p chosen) ∷ senders p chosen
+          wrote = ap (λ (l : List ℕ). slotBytes (made l)) turn-slot ∙ made-one (senders p chosen) not-empty

@@ -10,7 +10,7 @@ ghost use Rattle.meaning.specs.Plan.{front, roomFor};
 ghost use Rattle.meaning.specs.Answer.{given, _then_, planAnswer, planBuffer};
 ghost use Rattle.meaning.specs.Conflict.{entry};
 ghost use Rattle.meaning.specs.Rounds.{joined, senders, hop, moved, outside, rounds, byProbe, byLevel};
-ghost use Rattle.meaning.proofs.Moving.{weigh, Sender};
+ghost use Rattle.meaning.proofs.Moving.{weigh, Rising, Sender};
 ghost use Rattle.plan.specs.Turn.{blockedBy, mayFor, Considered, Joining, Written, nobody, Chosen, Ready, Turned, turnSlot};
 ghost use Rattle.plan.specs.Going.{wayBy, from, roundOf, Going, slotsBy, Filled};
 ghost use Rattle.plan.specs.Answered.{Prepared, Finished};
@@ -150,21 +150,18 @@ fn hop(parents: &[u8; 65], v: Probe, held: &mut [u16; 65])
     held[up] += 1;
 }
 
-// Moves a packet of each probe chosen.
-fn move_packets(p: u8, parents: &[u8; 65], chosen: &[bool; 65], held: &mut [u16; 65])
-    requires small { ⌜ p ≤ 63 ⌝ }
+// Moves a packet of each sender of a slot.
+fn move_packets(parents: &[u8; 65], slot: &[u8], held: &mut [u16; 65])
     requires long { ⌜ length (now held) ≡ 65 ⌝ }
     requires few { ⌜ weigh (λ _. 1) (now held) ≤ 945 ⌝ }
-    requires senders { ⌜ ((k : ℕ) → k < p → getD (now chosen) (k + 2) false ≡ true → Sender (λ u. getD (now parents) u 0) (now held) (k + 2)) ⌝ }
-    ensures { λ _. ⌜ now (held .exit) ≡ moved (λ u. getD (now (parents .entry)) u 0) (senders p (now (chosen .entry))) (now (held .entry)) ⌝ }
+    requires rising { ⌜ Rising 1 (now slot) ⌝ }
+    requires senders { ⌜ ((i : ℕ) → i < length (now slot) → Sender (λ u. getD (now parents) u 0) (now held) (getD (now slot) i 0)) ⌝ }
+    ensures { λ _. ⌜ now (held .exit) ≡ moved (λ u. getD (now (parents .entry)) u 0) (now (slot .entry)) (now (held .entry)) ⌝ }
 {
-    let mut k: u8 = 0;
-    while k < p {
-        let v = (k + 2) as usize;
-        if chosen[v] {
-            hop(parents, Probe(k + 2), held);
-        }
-        k += 1;
+    let mut i = 0;
+    while i < slot.len() {
+        hop(parents, Probe(slot[i]), held);
+        i += 1;
     }
 }
 
@@ -209,7 +206,7 @@ fn turn(
         return 0;
     }
     let bytes = write_slot(rest, p, &chosen);
-    move_packets(p, parents, &chosen, held);
+    move_packets(parents, &rest[1..bytes], held);
     bytes
 }
 

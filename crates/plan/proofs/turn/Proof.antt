@@ -4,7 +4,7 @@ use Prim.Native.Nat.{ℕ}
 use borrow.Author.Tests.{not-true, not-false}
 use lib.ListN.{getD}
 use Rattle.meaning.specs.Conflict.{entry}
-use Rattle.plan.proofs.Turning.{turned-none, turned-slot, room-for, can-all}
+use Rattle.plan.proofs.Turning.{turned-none, turned-slot, room-for, slot-ends, may-move}
 use native.Mathlib.Omega.{arith}
 use borrow.Author.Needs.{needs}
 use Rattle.plan.proofs.turn.Statement.{statement}
@@ -39,20 +39,29 @@ write-slot-requires c κs =
     let own : ℕ → ℕ = λ v. getD (a .own .now) v 0 in
     (start .pre .1 .small, room-for (a .p) parent (a .held .now) (a .rest .now) (start .pre .1) (entry (a .table .now)) own (a .s .0) _ (choose .result) (choose .ensures) (not-false (choose .result) (c .before .before .if1 .left)))
 
--- src/lib.rt:180:5
+sub-move-packets : tie.Need-sub-move-packets
+sub-move-packets c = search needs
+
+part-move-packets-start : tie.Need-part-move-packets-start
+part-move-packets-start c = search needs
+
+part-move-packets-end : tie.Need-part-move-packets-end
+part-move-packets-end c =
+    let start = c .before .before .before .before .before .before .before .before .before .before .before in
+    let a = start .args in
+    let choose = c .before .before .before .before .before .before .before .choose in
+    let parent : ℕ → ℕ = λ u. getD (a .parents .now) u 0 in
+    let own : ℕ → ℕ = λ v. getD (a .own .now) v 0 in
+    slot-ends (a .p) parent (a .held .now) (a .rest .now) (start .pre .1) (entry (a .table .now)) own (a .s .0) _ (choose .result) (choose .ensures) (not-false (choose .result) (c .before .before .before .before .before .before .if1 .left)) _ _ (c .before .before .before .write-slot .ensures)
+
 move-packets-requires : tie.Need-move-packets-requires
 move-packets-requires c κs =
-    let start = c .before .before .before .before .before .before .before .before .before .before .before .before in
+    let start = c .before .before .before .before .before .before .before .before .before .before .before .before .before in
     let a = start .args in
-    let choose = c .before .before .before .before .before .before .before .before .choose in
+    let choose = c .before .before .before .before .before .before .before .before .before .choose in
     let parent : ℕ → ℕ = λ u. getD (a .parents .now) u 0 in
-    let own : ℕ → ℕ = λ v. getD (a .own .now) v 0 in (
-      start .pre .1 .small,
-      (
-        start .pre .1 .long,
-        (start .pre .1 .few, can-all (a .p) parent (a .held .now) (a .rest .now) (start .pre .1) (entry (a .table .now)) own (a .s .0) _ (choose .result) (choose .ensures) (not-false (choose .result) (c .before .before .before .before .before .before .before .if1 .left))),
-      ),
-    )
+    let own : ℕ → ℕ = λ v. getD (a .own .now) v 0 in
+    (start .pre .1 .long, (start .pre .1 .few, may-move (a .p) parent (a .held .now) (a .rest .now) (start .pre .1) (entry (a .table .now)) own (a .s .0) _ (choose .result) (choose .ensures) (not-false (choose .result) (c .before .before .before .before .before .before .before .before .if1 .left)) _ _ (c .before .before .before .before .before .write-slot .ensures)))
 
 -- src/lib.rt:162:1
 same-length : tie.Need-same-length
@@ -61,12 +70,12 @@ same-length c = search needs
 -- src/lib.rt:162:1
 returns-2 : tie.Need-returns-2
 returns-2 c =
-    let start = c .before .before .before .before .before .before .before .before .before .before .before .before .before in
+    let start = c .before .before .before .before .before .before .before .before .before .before .before .before .before .before in
     let a = start .args in
-    let choose = c .before .before .before .before .before .before .before .before .before .choose in
+    let choose = c .before .before .before .before .before .before .before .before .before .before .choose in
     let parent : ℕ → ℕ = λ u. getD (a .parents .now) u 0 in
     let own : ℕ → ℕ = λ v. getD (a .own .now) v 0 in
-    turned-slot (a .p) parent (a .held .now) (a .rest .now) (start .pre .1) (entry (a .table .now)) own (a .s .0) _ (choose .result) (choose .ensures) (not-false (choose .result) (c .before .before .before .before .before .before .before .before .if1 .left)) _ _ _ (c .move-packets .ensures) (c .before .before .before .before .before .write-slot .ensures)
+    turned-slot (a .p) parent (a .held .now) (a .rest .now) (start .pre .1) (entry (a .table .now)) own (a .s .0) _ (choose .result) (choose .ensures) (not-false (choose .result) (c .before .before .before .before .before .before .before .before .before .if1 .left)) _ _ (c .before .before .before .before .before .before .write-slot .ensures) _ (c .move-packets .ensures)
 
 pub turn-spec : {M : Type 1} → statement M
 turn-spec =
@@ -75,6 +84,9 @@ turn-spec =
     choose-requires
     returns
     write-slot-requires
+    sub-move-packets
+    part-move-packets-start
+    part-move-packets-end
     move-packets-requires
     same-length
     returns-2)
