@@ -1,6 +1,6 @@
 -- Who may send, and what choosing one more changes.
 -- Assumes nothing.
-use mathlib.Core.Path.{_≡_, refl, sym, ap, ap₂, _∙_, subst}
+use mathlib.Core.Path.{_≡_, refl, sym, ap, ap₂, _∙_, subst, fun-ext}
 use mathlib.Core.Bool.{Bool, true, false, cond, not, _&&_, _||_, and-false, and-true, or-true, or-false, or-self}
 use mathlib.Core.List.{List}
 use mathlib.Core.Logic.{_≢_, ⊎-elim}
@@ -9,23 +9,21 @@ use native.Mathlib.Nat.{not-suc-le-zero}
 use native.Mathlib.Omega.{arith}
 use borrow.Author.Tests.{le-ltb, lt-ltb, eq-eqb, ne-eqb}
 use lib.Dec.{eqb, ltb}
-use lib.ListN.{length, getD, set, length-set}
+use lib.ListN.{length, getD, set, length-set, List·getD-eq-default}
 use lib.Seq.{getD-set-same, getD-set-other}
 use Rattle.meaning.specs.Words.{forEach, some, tab, places}
 use Rattle.meaning.specs.Rounds.{holds, clashes, joins, joined}
-use Rattle.plan.specs.Turn.{blockedBy, mayFor, anyTaken, Considered, Joining}
-use Rattle.meaning.proofs.Turns.{below-or-last, forEach-one, forEach-keeps, some-one, some-same, tab-same, getD-tab}
+use Rattle.plan.specs.Turn.{blockedBy, anyTaken, Considered, Joining}
+use Rattle.meaning.proofs.Turns.{below-or-last, forEach-one, forEach-keeps, some-one, some-same, tab-same, getD-tab, getD-places}
 
-module _ (own held : List ℕ) (s v : ℕ) where
-  pub may-empty : getD held v 0 ≡ 0 → false ≡ mayFor own s held v
-  may-empty e = sym (ap (λ (b : Bool). (eqb s 0 || eqb (getD own v 0) s) && b) (le-ltb 0 (getD held v 0) (omega arith)) ∙ and-false (eqb s 0 || eqb (getD own v 0) s))
-
-  pub may-join : getD held v 0 ≢ 0 → s ≡ 0 → true ≡ mayFor own s held v
-  may-join h e = sym (ap₂ (λ (a b : Bool). (a || eqb (getD own v 0) s) && b) (eq-eqb s 0 e) (lt-ltb 0 (getD held v 0) (omega arith)))
-
-  pub may-own : getD held v 0 ≢ 0 → s ≢ 0 → eqb (getD own v 0) s ≡ mayFor own s held v
-  may-own h n =
-      sym (ap₂ (λ (a b : Bool). (a || eqb (getD own v 0) s) && b) (ne-eqb s 0 n) (lt-ltb 0 (getD held v 0) (omega arith)) ∙ and-true (eqb (getD own v 0) s))
+-- what flags by node say, if only those that hold a packet pass the test
+pub flags-say : (flags : List Bool) (test : ℕ → Bool) (held : List ℕ) → length held ≡ places → ((v : ℕ) → holds held v ≡ false → test v ≡ false)
+    → flags ≡ tab places test → (λ v. getD flags v false) ≡ test
+flags-say flags test held long only made =
+    fun-ext
+    (λ v.
+    ap (λ (l : List Bool). getD l v false) made
+    ∙ getD-places test false (λ u past. only u (le-ltb 0 (getD held u 0) (omega (arith, List·getD-eq-default held 0 {n = u} (omega arith))))) v)
 
 -- one more is chosen: it blocks all that it conflicts with
 some-set : (n : ℕ) (relation : ℕ → ℕ → Bool) (chosen : List Bool) (v i : ℕ) → v < n → v < length chosen

@@ -1,7 +1,7 @@
 -- A turn of a colour: who owns its slot, that the slot is not empty where one owns it, and what is left to do after it.
 -- Assumes nothing.
 use mathlib.Core.Path.{_≡_, refl, sym, ap, ap₂, _∙_, subst, fun-ext}
-use mathlib.Core.Bool.{Bool, true, false, cond, not, _&&_, _||_}
+use mathlib.Core.Bool.{Bool, true, false, cond, not, _&&_, _||_, and-false}
 use mathlib.Core.List.{List, [], _∷_, _++_, append-nil}
 use mathlib.Core.Logic.{_≢_, ⊎-elim}
 use Prim.Native.Nat.{ℕ, zero, suc, _+_, _-_, _*_, _≤_, _<_}
@@ -14,13 +14,13 @@ use lib.ListN.{length, getD, set, take, drop, replicate, length-append}
 use lib.Seq.{getD-set-same, getD-set-other, take-at}
 use Rattle.meaning.specs.Words.{forEach, some, tab, places, probesThat, someProbe}
 use Rattle.meaning.specs.Plan.{front, slotBytes}
-use Rattle.meaning.specs.Rounds.{holds, clashes, joins, joined, senders, slotOf, ownersByLevel, moved}
+use Rattle.meaning.specs.Rounds.{holds, clashes, joins, joined, senders, slotOf, ownersByProbe, ownersByLevel, moved}
 use Rattle.meaning.proofs.Turns.{below-or-last, forEach-keeps, forEach-one, some-found, some-none, none-some, some-where, some-one, same-or-other}
 use Rattle.meaning.proofs.Moving.{weigh, Each, Rising, Sender, weigh-moved, weigh-up, kept, length-moved}
 use Rattle.meaning.proofs.Slots.{Only, only-joined, each-probe, each-slot, each-so, rising-slot, rising-probes, and-left, and-right, never, true-or-false}
-use Rattle.plan.specs.Turn.{blockedBy, mayFor, anyTaken, Joining, nobody, Chosen, Ready, Written, Turned, turnSlot, made}
+use Rattle.plan.specs.Turn.{blockedBy, anyTaken, Joining, nobody, Chosen, Ready, Written, Turned, turnSlot, made}
 use Rattle.meaning.specs.Yard.{levelBy}
-use Rattle.plan.proofs.Choosing.{joining-long}
+use Rattle.plan.proofs.Choosing.{flags-say, joining-long}
 use Rattle.plan.proofs.Writing.{probes-put, probes-grow, length-front}
 use Rattle.plan.proofs.Sending.{at-each}
 
@@ -28,11 +28,6 @@ use Rattle.plan.proofs.Sending.{at-each}
 pub unblocked : (relation : ℕ → ℕ → Bool) → nobody ≡ blockedBy relation nobody
 unfolding some tab
 unblocked relation = refl
-
--- with a colour, those that may are its own holders
-pub may-owners : (own : List ℕ) (s : ℕ) (held : List ℕ) → 1 ≤ s → mayFor own s held ≡ (λ v. eqb (getD own v 0) s && holds held v)
-may-owners own s held h =
-    fun-ext (λ v. ap (λ (b : Bool). (b || eqb (getD own v 0) s) && holds held v) (ne-eqb s 0 (omega arith)))
 
 -- who is chosen stays chosen
 flag-stays : (relation : ℕ → ℕ → Bool) (may : ℕ → Bool) (u v : ℕ) (chosen : List Bool) → v < length chosen → getD chosen v false ≡ true
@@ -114,32 +109,59 @@ only-owners p relation own s may v e =
     and-right (eqb (own v) s) (may v)
     (only-joined p relation (λ u. eqb (own u) s && may u) nobody (λ u h. never (sym (nobody-flagged 65 u) ∙ h)) v e)
 
-module _ (p : ℕ) (relation : ℕ → ℕ → Bool) (own : List ℕ) (s : ℕ) (held : List ℕ) (small : p ≤ 63) (colour : 1 ≤ s) where
+module _ (p : ℕ) (relation : ℕ → ℕ → Bool) (own : ℕ → ℕ) (s : ℕ) (held : List ℕ) (long : length held ≡ places) (mine : List Bool)
+    (flags : mine ≡ ownersByProbe own s (holds held)) where
   abbrev owners : List Bool
-  owners = ownersByLevel p relation (λ v. getD own v 0) s (holds held)
+  owners = ownersByLevel p relation own s (holds held)
 
-  module _ (chosen blocked : List Bool) (any : Bool) (first : Joining relation (mayFor own s held) nobody p chosen blocked any) where
+  -- who has the colour and holds a packet
+  abbrev owner : ℕ → Bool
+  owner v = eqb (own v) s && holds held v
+
+  -- the flags say who
+  mine-say : (λ v. getD mine v false) ≡ owner
+  unfolding ownersByProbe
+  mine-say =
+      flags-say mine owner held long (λ v none. ap (λ (b : Bool). eqb (own v) s && b) none ∙ and-false (eqb (own v) s)) flags
+
+  -- where no flag is up, nobody owns the slot
+  pub chosen-nobody : p ≤ 63 → some places (λ v. getD mine v false) ≡ false → (chosen : List Bool) → Chosen p relation own s held chosen false
+  unfolding ownersByLevel
+  chosen-nobody small none chosen =
+      record { owned = sym (none-some p (λ k. getD owners (k + 2) false) (λ k h. go k h (getD owners (k + 2) false) refl)); chose = λ q. never q }
+    where
+      go : (k : ℕ) → k < p → (b : Bool) → getD owners (k + 2) false ≡ b → b ≡ false
+      go k h false e = refl
+      go k h true e =
+          sym (only-joined p relation owner nobody (λ u q. never (sym (nobody-flagged 65 u) ∙ q)) (k + 2) e)
+          ∙ sym (ap (λ (f : ℕ → Bool). f (k + 2)) mine-say) ∙ some-none places (λ v. getD mine v false) none (k + 2) (omega arith)
+
+  module _ (small : p ≤ 63) (chosen blocked : List Bool) (any : Bool) (first : Joining relation (λ v. getD mine v false) nobody p chosen blocked any) where
     -- the owners are the first to be taken
-    pub first-chosen : chosen ≡ owners
+    first-chosen : chosen ≡ owners
     unfolding ownersByLevel
-    first-chosen = first .chose ∙ ap (λ (may : ℕ → Bool). joined p relation may nobody) (may-owners own s held colour)
+    first-chosen = first .chose ∙ ap (λ (may : ℕ → Bool). joined p relation may nobody) mine-say
 
-    pub first-any : any ≡ someProbe p (λ v. getD owners v false)
+    first-any : any ≡ someProbe p (λ v. getD owners v false)
     first-any =
-        first .took ∙ any-chosen p relation (mayFor own s held) small
+        first .took ∙ any-chosen p relation (λ v. getD mine v false) small
         ∙ ap (λ (l : List Bool). someProbe p (λ v. getD l v false)) (sym (first .chose) ∙ first-chosen)
 
     -- without an owner there is no slot
-    pub chosen-none : any ≡ false → Chosen p relation (λ v. getD own v 0) s held chosen false
+    pub chosen-none : any ≡ false → Chosen p relation own s held chosen false
     chosen-none e = record { owned = sym e ∙ first-any; chose = λ q. never q }
 
     -- with one, all others that hold a packet have their turn
-    pub chosen-all : any ≡ true → (chosen′ blocked′ : List Bool) (any′ : Bool) → Joining relation (mayFor own 0 held) chosen p chosen′ blocked′ any′
-        → Chosen p relation (λ v. getD own v 0) s held chosen′ true
-    chosen-all e chosen′ blocked′ any′ second =
+    pub chosen-all : any ≡ true → (all : List Bool) → all ≡ tab places (holds held) → (chosen′ blocked′ : List Bool) (any′ : Bool)
+        → Joining relation (λ v. getD all v false) chosen p chosen′ blocked′ any′ → Chosen p relation own s held chosen′ true
+    chosen-all e all said chosen′ blocked′ any′ second =
         record {
           owned = sym e ∙ first-any;
-          chose = λ q. second .chose ∙ ap (λ (l : List Bool). joined p relation (holds held) l) first-chosen;
+          chose =
+              λ q.
+              second .chose
+              ∙ ap₂ (λ (may : ℕ → Bool) (l : List Bool). joined p relation may l)
+              (flags-say all (holds held) held long (λ v none. none) said) first-chosen;
         }
 
 pub made-one : (slot : List ℕ) → 1 ≤ length slot → slotBytes (made slot) ≡ length slot ∷ slot

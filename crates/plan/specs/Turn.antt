@@ -15,10 +15,6 @@ use Rattle.meaning.proofs.Moving.{weigh}
 abbrev pub blockedBy : (ℕ → ℕ → Bool) → List Bool → List Bool
 blockedBy relation chosen = tab places (clashes relation chosen)
 
--- v holds a packet and has colour s; colour 0 stands for any
-abbrev pub mayFor : List ℕ → ℕ → List ℕ → ℕ → Bool
-mayFor own s held v = (eqb s 0 || eqb (getD own v 0) s) && holds held v
-
 -- some probe was taken when its turn to join came
 unfoldable pub anyTaken : ℕ → (ℕ → ℕ → Bool) → (ℕ → Bool) → List Bool → Bool
 anyTaken p relation may chosen =

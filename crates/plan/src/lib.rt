@@ -5,13 +5,13 @@ ghost use mathlib.Core.List.{List, [], _∷_, _++_};
 ghost use Prim.Native.Nat.{ℕ, _+_, _-_, _*_, _≤_, _<_};
 ghost use lib.Dec.{eqb, ltb};
 ghost use lib.ListN.{length, getD, drop, take};
-ghost use Rattle.meaning.specs.Words.{tab, places, probesThat};
+ghost use Rattle.meaning.specs.Words.{some, tab, places, probesThat};
 ghost use Rattle.meaning.specs.Plan.{front, roomFor};
 ghost use Rattle.meaning.specs.Answer.{given, _then_, planAnswer, planBuffer};
 ghost use Rattle.meaning.specs.Conflict.{entry};
-ghost use Rattle.meaning.specs.Rounds.{joined, senders, hop, moved, outside, rounds, byProbe, byLevel};
+ghost use Rattle.meaning.specs.Rounds.{holds, ownersByProbe, joined, senders, hop, moved, outside, rounds, byProbe, byLevel};
 ghost use Rattle.meaning.proofs.Moving.{weigh, Rising, Sender};
-ghost use Rattle.plan.specs.Turn.{blockedBy, mayFor, Considered, Joining, Written, nobody, Chosen, Ready, Turned, turnSlot};
+ghost use Rattle.plan.specs.Turn.{blockedBy, Considered, Joining, Written, nobody, Chosen, Ready, Turned, turnSlot};
 ghost use Rattle.plan.specs.Going.{wayBy, from, roundOf, Going, slotsBy, Filled};
 ghost use Rattle.plan.specs.Answered.{Prepared, Finished};
 ghost use Rattle.meaning.specs.Yard.{levelBy};
@@ -48,28 +48,50 @@ fn block(row: &[bool; 65], blocked: &mut [bool; 65])
     }
 }
 
-// Whether v may send in the slot of colour s: it holds a packet, and owns the slot or, where s is 0, only joins.
-fn may(own: &[u8; 65], s: Colour, held: &[u16; 65], v: Probe) -> bool
-    requires { ⌜ v .0 < 65 ⌝ }
-    ensures { λ r. ⌜ r ≡ mayFor (now (own .entry)) (s .0) (now (held .entry)) (v .0) ⌝ }
+// Who owns the slot of colour s, by node: has the colour and holds a packet. All places and no branch: a compiler does many at once.
+fn owning(own: &[u8; 65], s: Colour, held: &[u16; 65]) -> [bool; 65]
+    ensures { λ r. ⌜ r ≡ ownersByProbe (λ v. getD (now (own .entry)) v 0) (s .0) (holds (now (held .entry))) ⌝ }
 {
     let colour = s.0;
-    let i = v.0 as usize;
-    if held[i] == 0 {
-        return false;
+    let mut flags = [false; 65];
+    let mut i = 0;
+    while i < 65 {
+        flags[i] = (own[i] == colour) & (0 < held[i]);
+        i += 1;
     }
-    if colour == 0 {
-        return true;
+    flags
+}
+
+// Who holds a packet, by node.
+fn holding(held: &[u16; 65]) -> [bool; 65]
+    ensures { λ r. ⌜ r ≡ tab places (holds (now (held .entry))) ⌝ }
+{
+    let mut flags = [false; 65];
+    let mut i = 0;
+    while i < 65 {
+        flags[i] = 0 < held[i];
+        i += 1;
     }
-    own[i] == colour
+    flags
+}
+
+// Whether any flag is up.
+fn any_of(flags: &[bool; 65]) -> bool
+    ensures { λ r. ⌜ r ≡ some places (λ v. getD (now (flags .entry)) v false) ⌝ }
+{
+    let mut any = false;
+    let mut i = 0;
+    while i < 65 {
+        any = any | flags[i];
+        i += 1;
+    }
+    any
 }
 
 // The turn of probe v to be chosen: it is, if it may and conflicts with none chosen so far; says whether it was.
 fn consider(
     table: &[[bool; 65]; 65],
-    own: &[u8; 65],
-    s: Colour,
-    held: &[u16; 65],
+    may: &[bool; 65],
     v: Probe,
     chosen: &mut [bool; 65],
     blocked: &mut [bool; 65],
@@ -77,12 +99,12 @@ fn consider(
     requires node { ⌜ v .0 < 65 ⌝ }
     requires long { ⌜ length (now chosen) ≡ 65 ⌝ }
     requires known { ⌜ now blocked ≡ blockedBy (entry (now table)) (now chosen) ⌝ }
-    ensures { λ r. ⌜ Considered (entry (now (table .entry))) (mayFor (now (own .entry)) (s .0) (now (held .entry))) (v .0) (now (chosen .entry)) (now (chosen .exit)) (now (blocked .exit)) r ⌝ }
+    ensures { λ r. ⌜ Considered (entry (now (table .entry))) (λ u. getD (now (may .entry)) u false) (v .0) (now (chosen .entry)) (now (chosen .exit)) (now (blocked .exit)) r ⌝ }
 {
-    if !may(own, s, held, v) {
+    let i = v.0 as usize;
+    if !may[i] {
         return false;
     }
-    let i = v.0 as usize;
     if blocked[i] {
         return false;
     }
@@ -91,25 +113,23 @@ fn consider(
     true
 }
 
-// Takes, in rising number, each probe of colour s (0: of any) that holds a packet and conflicts with none chosen so far; says whether any was taken.
+// Takes, in rising number, each probe that may and conflicts with none chosen so far; says whether any was taken.
 fn join(
     p: u8,
     table: &[[bool; 65]; 65],
-    own: &[u8; 65],
-    s: Colour,
-    held: &[u16; 65],
+    may: &[bool; 65],
     chosen: &mut [bool; 65],
     blocked: &mut [bool; 65],
 ) -> bool
     requires small { ⌜ p ≤ 63 ⌝ }
     requires long { ⌜ length (now chosen) ≡ 65 ⌝ }
     requires known { ⌜ now blocked ≡ blockedBy (entry (now table)) (now chosen) ⌝ }
-    ensures { λ r. ⌜ Joining (entry (now (table .entry))) (mayFor (now (own .entry)) (s .0) (now (held .entry))) (now (chosen .entry)) p (now (chosen .exit)) (now (blocked .exit)) r ⌝ }
+    ensures { λ r. ⌜ Joining (entry (now (table .entry))) (λ u. getD (now (may .entry)) u false) (now (chosen .entry)) p (now (chosen .exit)) (now (blocked .exit)) r ⌝ }
 {
     let mut any = false;
     let mut k: u8 = 0;
     while k < p {
-        let taken = consider(table, own, s, held, Probe(k + 2), chosen, blocked);
+        let taken = consider(table, may, Probe(k + 2), chosen, blocked);
         any = any | taken;
         k += 1;
     }
@@ -175,15 +195,20 @@ fn choose(
     chosen: &mut [bool; 65],
 ) -> bool
     requires small { ⌜ p ≤ 63 ⌝ }
-    requires colour { ⌜ 1 ≤ s .0 ⌝ }
+    requires long { ⌜ length (now held) ≡ 65 ⌝ }
     requires fresh { ⌜ now chosen ≡ nobody ⌝ }
     ensures { λ r. ⌜ Chosen p (entry (now (table .entry))) (λ v. getD (now (own .entry)) v 0) (s .0) (now (held .entry)) (now (chosen .exit)) r ⌝ }
 {
-    let mut blocked = [false; 65];
-    if !join(p, table, own, s, held, chosen, &mut blocked) {
+    let mine = owning(own, s, held);
+    if !any_of(&mine) {
         return false;
     }
-    join(p, table, own, Colour(0), held, chosen, &mut blocked);
+    let mut blocked = [false; 65];
+    if !join(p, table, &mine, chosen, &mut blocked) {
+        return false;
+    }
+    let all = holding(held);
+    join(p, table, &all, chosen, &mut blocked);
     true
 }
 
@@ -197,8 +222,7 @@ fn turn(
     held: &mut [u16; 65],
     rest: &mut [u8],
 ) -> usize
-    requires colour { ⌜ 1 ≤ s .0 ⌝ }
-    requires ready { ⌜ Ready p (λ u. getD (now parents) u 0) (now held) (length (now rest)) ⌝ }
+    requires { ⌜ Ready p (λ u. getD (now parents) u 0) (now held) (length (now rest)) ⌝ }
     ensures { λ r. ⌜ Turned (λ u. getD (now (parents .entry)) u 0) (turnSlot p (entry (now (table .entry))) (λ v. getD (now (own .entry)) v 0) (s .0) (now (held .entry))) (now (held .entry)) (now (held .exit)) (now (rest .entry)) (now (rest .exit)) r ⌝ }
 {
     let mut chosen = [false; 65];

@@ -1,6 +1,7 @@
 -- `plan::consider` meets its contract: each return has the tests that led there, and `block` adds the row of the probe taken.
 -- Assumes nothing.
-use mathlib.Core.Path.{_≡_, refl, sym, ap, _∙_}
+use mathlib.Core.Path.{_≡_, refl, ap, _∙_}
+use mathlib.Core.Bool.{false}
 use mathlib.Core.List.{[]}
 use borrow.Author.Tests.{not-true, not-false}
 use lib.ListN.{length, getD}
@@ -16,69 +17,68 @@ use Rattle.plan.proofs.consider.Tie as tie
 use Rattle.plan.proofs.consider.Reads as reads
 use Rattle.plan.proofs.consider.Lts as lts
 use Rattle.plan.proofs.block.Reads as block-reads
-use Rattle.plan.proofs.may.Reads as may-reads
 
--- src/lib.rt:57:9
-may-requires : tie.Need-may-requires
-may-requires c κs = search needs
-
--- src/lib.rt:58:9
-returns : tie.Need-returns
-returns c =
-    let start = c .before .before in
-    let a = start .args in
-    not-allowed _ _ (a .v .0) (a .chosen .now) (a .blocked .now) (start .pre .0) (start .pre .1 .0) (start .pre .1 .1)
-    (sym (c .before .may .ensures) ∙ not-true (c .before .may .result) (c .if1 .taken))
-
--- src/lib.rt:60:8
+-- src/lib.rt:104:13
 cast-i : tie.Need-cast-i
 cast-i c = search needs
 
+-- src/lib.rt:105:9
+element-copy-out-if1 : tie.Need-element-copy-out-if1
+element-copy-out-if1 c = search needs
+
+-- src/lib.rt:106:9
+returns : tie.Need-returns
+returns c =
+    let start = c .before .before .before in
+    let a = start .args in
+    not-allowed _ _ (a .v .0) (a .chosen .now) (a .blocked .now) (start .pre .0) (start .pre .1 .0) (start .pre .1 .1)
+    (not-true (getD (a .may .now) (a .v .0) false) (c .if1 .taken))
+
+-- src/lib.rt:108:8
 element-copy-out-if2 : tie.Need-element-copy-out-if2
 element-copy-out-if2 c = search needs
 
--- src/lib.rt:61:9
+-- src/lib.rt:109:9
 returns-2 : tie.Need-returns-2
 returns-2 c =
     let start = c .before .before .before .before .before in
     let a = start .args in
     not-free _ _ (a .v .0) (a .chosen .now) (a .blocked .now) (start .pre .0) (start .pre .1 .0) (start .pre .1 .1) (c .if2 .taken)
 
--- src/lib.rt:63:5
+-- src/lib.rt:111:5
 element-write-chosen : tie.Need-element-write-chosen
 element-write-chosen c = search needs
 
--- src/lib.rt:64:11
+-- src/lib.rt:112:11
 mul-block : tie.Need-mul-block
 mul-block c = search needs
 
--- src/lib.rt:64:11
+-- src/lib.rt:112:11
 index-1-block : tie.Need-index-1-block
 index-1-block c = search needs
 
--- src/lib.rt:64:5
+-- src/lib.rt:112:5
 block-requires : tie.Need-block-requires
 block-requires c κs =
     let start = c .before .before .before .before .before .before .before in
     ap length (start .pre .1 .1) ∙ length-tab places (clashes (entry (start .args .table .now)) (start .args .chosen .now))
 
--- src/lib.rt:43:1
+-- src/lib.rt:92:1
 returns-3 : tie.Need-returns-3
 returns-3 c =
     let start = c .before .before .before .before .before .before .before .before in
     let a = start .args in
     taken _ _ (a .v .0) (a .chosen .now) (a .blocked .now) (start .pre .0) (start .pre .1 .0) (start .pre .1 .1)
-    (sym (c .before .before .before .before .before .before .before .may .ensures)
-    ∙ not-false (c .before .before .before .before .before .before .before .may .result) (c .before .before .before .before .before .before .if1 .left))
+    (not-false (getD (a .may .now) (a .v .0) false) (c .before .before .before .before .before .if1 .left))
     (c .before .before .before .if2 .left) (getD (a .table .now) (a .v .0) []) (c .block .last .1 .0) (λ i. refl) (c .block .ensures)
 
 pub consider-spec : {M : Type 1} → statement M
 consider-spec =
     tie.close
     (tie.spec
-    may-requires
-    returns
     cast-i
+    element-copy-out-if1
+    returns
     element-copy-out-if2
     returns-2
     element-write-chosen

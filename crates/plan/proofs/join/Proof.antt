@@ -2,9 +2,10 @@
 -- Assumes nothing.
 use mathlib.Core.Path.{_≡_, ap, _∙_, subst}
 use Prim.Native.Nat.{ℕ, _-_, _≤_}
-use lib.ListN.{length}
+use lib.ListN.{length, getD}
+use mathlib.Core.Bool.{false}
 use Rattle.meaning.specs.Conflict.{entry}
-use Rattle.plan.specs.Turn.{mayFor, Joining}
+use Rattle.plan.specs.Turn.{Joining}
 use Rattle.plan.proofs.Choosing.{joining-start, joining-next, joining-long}
 use native.Mathlib.Omega.{arith}
 use borrow.Author.Needs.{needs}
@@ -15,18 +16,18 @@ use Rattle.plan.proofs.join.Lts as lts
 use Rattle.plan.proofs.consider.Reads as consider-reads
 
 abbrev Inv-loop : tie.InvT-loop
-Inv-loop p table own s held chosen₀ blocked₀ any₀ k₀ chosen blocked any k =
-    (k ≤ p) × Joining (entry table) (mayFor own (s .0) held) chosen₀ k chosen blocked any
+Inv-loop p table may chosen₀ blocked₀ any₀ k₀ chosen blocked any k =
+    (k ≤ p) × Joining (entry table) (λ u. getD may u false) chosen₀ k chosen blocked any
 
 abbrev μ-loop : tie.MeasureT-loop
-μ-loop p table own s held chosen₀ blocked₀ any₀ k₀ chosen blocked any k = p - k
+μ-loop p table may chosen₀ blocked₀ any₀ k₀ chosen blocked any k = p - k
 
 -- src/lib.rt:85:5
 loop-holds : tie.Need-loop-holds Inv-loop μ-loop
 loop-holds c = (search needs, joining-start _ _ _ _ (c .pre .1 .1))
 
-add-t12 : tie.Need-add-t12 Inv-loop μ-loop
-add-t12 c = search needs
+add-t10 : tie.Need-add-t10 Inv-loop μ-loop
+add-t10 c = search needs
 
 -- src/lib.rt:87:13
 consider-requires : tie.Need-consider-requires Inv-loop μ-loop
@@ -55,7 +56,7 @@ returns c =
     let a = c .before .before .args in
     let l = c .before .loop in
     let all : l .k ≡ a .p = omega arith in
-    subst (λ (n : ℕ). Joining (entry (a .table .now)) (mayFor (a .own .now) (a .s .0) (a .held .now)) (a .chosen .now) n (l .chosen) (l .blocked) (l .any)) all
+    subst (λ (n : ℕ). Joining (entry (a .table .now)) (λ u. getD (a .may .now) u false) (a .chosen .now) n (l .chosen) (l .blocked) (l .any)) all
     (l .inv .1)
 
 pub join-spec : {M : Type 1} → statement M
@@ -65,7 +66,7 @@ join-spec =
     Inv-loop
     μ-loop
     loop-holds
-    add-t12
+    add-t10
     consider-requires
     add-k
     loop-less

@@ -59,7 +59,7 @@ turn-requires c κs =
     let room : length (a .rest .now) - l .at ≡ length (take (length (l .rest) - l .at) (drop (l .at) (l .rest))) =
     ap (λ (n : ℕ). n - l .at) (sym (going-long (l .inv .1))) ∙ sym (length-drop (l .at) (l .rest)) ∙ ap length (sym (part-from (l .rest) (l .at)))
     in
-    (search needs, subst (λ (r : ℕ). Ready (a .p) (λ u. getD (a .parents .now) u 0) (l .held) r) room (l .inv .1 .ready))
+    subst (λ (r : ℕ). Ready (a .p) (λ u. getD (a .parents .now) u 0) (l .held) r) room (l .inv .1 .ready)
 
 -- src/lib.rt:220:9
 add-at : tie.Need-add-at Inv-loop μ-loop

@@ -27,7 +27,7 @@ returns c =
     let choose = c .before .choose in
     let parent : ℕ → ℕ = λ u. getD (a .parents .now) u 0 in
     let own : ℕ → ℕ = λ v. getD (a .own .now) v 0 in
-    turned-none (a .p) parent (a .held .now) (a .rest .now) (start .pre .1) (entry (a .table .now)) own (a .s .0) _ (choose .result) (choose .ensures) (not-true (choose .result) (c .if1 .taken))
+    turned-none (a .p) parent (a .held .now) (a .rest .now) (start .pre) (entry (a .table .now)) own (a .s .0) _ (choose .result) (choose .ensures) (not-true (choose .result) (c .if1 .taken))
 
 -- src/lib.rt:179:9
 write-slot-requires : tie.Need-write-slot-requires
@@ -37,7 +37,7 @@ write-slot-requires c κs =
     let choose = c .before .before .before .choose in
     let parent : ℕ → ℕ = λ u. getD (a .parents .now) u 0 in
     let own : ℕ → ℕ = λ v. getD (a .own .now) v 0 in
-    (start .pre .1 .small, room-for (a .p) parent (a .held .now) (a .rest .now) (start .pre .1) (entry (a .table .now)) own (a .s .0) _ (choose .result) (choose .ensures) (not-false (choose .result) (c .before .before .if1 .left)))
+    (start .pre .small, room-for (a .p) parent (a .held .now) (a .rest .now) (start .pre) (entry (a .table .now)) own (a .s .0) _ (choose .result) (choose .ensures) (not-false (choose .result) (c .before .before .if1 .left)))
 
 sub-move-packets : tie.Need-sub-move-packets
 sub-move-packets c = search needs
@@ -52,7 +52,7 @@ part-move-packets-end c =
     let choose = c .before .before .before .before .before .before .before .choose in
     let parent : ℕ → ℕ = λ u. getD (a .parents .now) u 0 in
     let own : ℕ → ℕ = λ v. getD (a .own .now) v 0 in
-    slot-ends (a .p) parent (a .held .now) (a .rest .now) (start .pre .1) (entry (a .table .now)) own (a .s .0) _ (choose .result) (choose .ensures) (not-false (choose .result) (c .before .before .before .before .before .before .if1 .left)) _ _ (c .before .before .before .write-slot .ensures)
+    slot-ends (a .p) parent (a .held .now) (a .rest .now) (start .pre) (entry (a .table .now)) own (a .s .0) _ (choose .result) (choose .ensures) (not-false (choose .result) (c .before .before .before .before .before .before .if1 .left)) _ _ (c .before .before .before .write-slot .ensures)
 
 move-packets-requires : tie.Need-move-packets-requires
 move-packets-requires c κs =
@@ -61,7 +61,7 @@ move-packets-requires c κs =
     let choose = c .before .before .before .before .before .before .before .before .before .choose in
     let parent : ℕ → ℕ = λ u. getD (a .parents .now) u 0 in
     let own : ℕ → ℕ = λ v. getD (a .own .now) v 0 in
-    (start .pre .1 .long, (start .pre .1 .few, may-move (a .p) parent (a .held .now) (a .rest .now) (start .pre .1) (entry (a .table .now)) own (a .s .0) _ (choose .result) (choose .ensures) (not-false (choose .result) (c .before .before .before .before .before .before .before .before .if1 .left)) _ _ (c .before .before .before .before .before .write-slot .ensures)))
+    (start .pre .long, (start .pre .few, may-move (a .p) parent (a .held .now) (a .rest .now) (start .pre) (entry (a .table .now)) own (a .s .0) _ (choose .result) (choose .ensures) (not-false (choose .result) (c .before .before .before .before .before .before .before .before .if1 .left)) _ _ (c .before .before .before .before .before .write-slot .ensures)))
 
 -- src/lib.rt:162:1
 same-length : tie.Need-same-length
@@ -75,7 +75,7 @@ returns-2 c =
     let choose = c .before .before .before .before .before .before .before .before .before .before .choose in
     let parent : ℕ → ℕ = λ u. getD (a .parents .now) u 0 in
     let own : ℕ → ℕ = λ v. getD (a .own .now) v 0 in
-    turned-slot (a .p) parent (a .held .now) (a .rest .now) (start .pre .1) (entry (a .table .now)) own (a .s .0) _ (choose .result) (choose .ensures) (not-false (choose .result) (c .before .before .before .before .before .before .before .before .before .if1 .left)) _ _ (c .before .before .before .before .before .before .write-slot .ensures) _ (c .move-packets .ensures)
+    turned-slot (a .p) parent (a .held .now) (a .rest .now) (start .pre) (entry (a .table .now)) own (a .s .0) _ (choose .result) (choose .ensures) (not-false (choose .result) (c .before .before .before .before .before .before .before .before .before .if1 .left)) _ _ (c .before .before .before .before .before .before .write-slot .ensures) _ (c .move-packets .ensures)
 
 pub turn-spec : {M : Type 1} → statement M
 turn-spec =
