@@ -118,3 +118,30 @@ module _ (relation : ℕ → ℕ → Bool) (may : ℕ → Bool) (before : List B
       kept : (b : Bool) (u : ℕ) (a : List Bool) → length a ≡ length before → length (cond b (set a u true) a) ≡ length before
       kept true u a h = length-set a u true ∙ h
       kept false u a h = h
+
+  -- a turn after which nobody asks whether any was taken
+  pub joining-on : (k : ℕ) (chosen blocked : List Bool) (any : Bool) → Joining relation may before k chosen blocked any → (chosen′ blocked′ : List Bool) (b : Bool)
+      → Considered relation may (k + 2) chosen chosen′ blocked′ b → Joining relation may before (k + 1) chosen′ blocked′ (anyTaken (k + 1) relation may before)
+  joining-on k chosen blocked any now chosen′ blocked′ b turn =
+      let next = joining-next k chosen blocked any now chosen′ blocked′ b turn in record { chose = next .chose; knows = next .knows; took = refl }
+
+  -- the flag of a probe that has had its turn stays as it is
+  flag-final : (k p : ℕ) → k < p → getD (joined (k + 1) relation may before) (k + 2) false ≡ getD (joined p relation may before) (k + 2) false
+  unfolding joined forEach
+  flag-final k zero h = absurd (not-suc-le-zero h)
+  flag-final k (suc p) h =
+      ⊎-elim
+      (λ (l : k < p).
+      flag-final k p l
+      ∙ sym (other (may (p + 2) && not (clashes relation (joined p relation may before) (p + 2))) (p + 2) (joined p relation may before) (omega arith)))
+      (λ (e : k ≡ p). let last : k + 1 ≡ suc p = omega arith in ap (λ (j : ℕ). getD (joined j relation may before) (k + 2) false) last)
+      (below-or-last k p h)
+    where
+      other : (b : Bool) (u : ℕ) (a : List Bool) → k + 2 ≢ u → getD (cond b (set a u true) a) (k + 2) false ≡ getD a (k + 2) false
+      other true u a ne = getD-set-other a u (k + 2) true false ne
+      other false u a ne = refl
+
+  -- so it says at once whether the probe sends
+  pub says : (k p : ℕ) → k < p → (chosen blocked : List Bool) (any : Bool) → Joining relation may before (k + 1) chosen blocked any
+      → getD (joined p relation may before) (k + 2) false ≡ getD chosen (k + 2) false
+  says k p h chosen blocked any now = sym (flag-final k p h) ∙ ap (λ (l : List Bool). getD l (k + 2) false) (sym (now .chose))

@@ -125,10 +125,10 @@ module _ (p : ℕ) (relation : ℕ → ℕ → Bool) (own : ℕ → ℕ) (s : �
       flags-say mine owner held long (λ v none. ap (λ (b : Bool). eqb (own v) s && b) none ∙ and-false (eqb (own v) s)) flags
 
   -- where no flag is up, nobody owns the slot
-  pub chosen-nobody : p ≤ 63 → some places (λ v. getD mine v false) ≡ false → (chosen : List Bool) → Chosen p relation own s held chosen false
+  pub chosen-nobody : p ≤ 63 → some places (λ v. getD mine v false) ≡ false → (chosen blocked : List Bool) → Chosen p relation own s held chosen blocked false
   unfolding ownersByLevel
-  chosen-nobody small none chosen =
-      record { owned = sym (none-some p (λ k. getD owners (k + 2) false) (λ k h. go k h (getD owners (k + 2) false) refl)); chose = λ q. never q }
+  chosen-nobody small none chosen blocked =
+      record { owned = sym (none-some p (λ k. getD owners (k + 2) false) (λ k h. go k h (getD owners (k + 2) false) refl)); chose = λ q. never q; knows = λ q. never q }
     where
       go : (k : ℕ) → k < p → (b : Bool) → getD owners (k + 2) false ≡ b → b ≡ false
       go k h false e = refl
@@ -147,22 +147,8 @@ module _ (p : ℕ) (relation : ℕ → ℕ → Bool) (own : ℕ → ℕ) (s : �
         first .took ∙ any-chosen p relation (λ v. getD mine v false) small
         ∙ ap (λ (l : List Bool). someProbe p (λ v. getD l v false)) (sym (first .chose) ∙ first-chosen)
 
-    -- without an owner there is no slot
-    pub chosen-none : any ≡ false → Chosen p relation own s held chosen false
-    chosen-none e = record { owned = sym e ∙ first-any; chose = λ q. never q }
-
-    -- with one, all others that hold a packet have their turn
-    pub chosen-all : any ≡ true → (all : List Bool) → all ≡ tab places (holds held) → (chosen′ blocked′ : List Bool) (any′ : Bool)
-        → Joining relation (λ v. getD all v false) chosen p chosen′ blocked′ any′ → Chosen p relation own s held chosen′ true
-    chosen-all e all said chosen′ blocked′ any′ second =
-        record {
-          owned = sym e ∙ first-any;
-          chose =
-              λ q.
-              second .chose
-              ∙ ap₂ (λ (may : ℕ → Bool) (l : List Bool). joined p relation may l)
-              (flags-say all (holds held) held long (λ v none. none) said) first-chosen;
-        }
+    pub chosen-first : Chosen p relation own s held chosen blocked any
+    chosen-first = record { owned = first-any; chose = λ _. first-chosen; knows = λ _. first .knows }
 
 pub made-one : (slot : List ℕ) → 1 ≤ length slot → slotBytes (made slot) ≡ length slot ∷ slot
 unfolding slotBytes
@@ -238,7 +224,7 @@ module _ (p : ℕ) (parent : ℕ → ℕ) (held : List ℕ) (room : ℕ) (ready 
         }
 
 module _ (p : ℕ) (parent : ℕ → ℕ) (held : List ℕ) (rest : List ℕ) (ready : Ready p parent held (length rest)) (relation : ℕ → ℕ → Bool) (own : ℕ → ℕ) (s : ℕ)
-    (chosen : List Bool) (any : Bool) (choice : Chosen p relation own s held chosen any) where
+    (chosen blocked : List Bool) (any : Bool) (choice : Chosen p relation own s held chosen blocked any) where
   abbrev owners′ : List Bool
   owners′ = ownersByLevel p relation own s (holds held)
 
@@ -252,15 +238,24 @@ module _ (p : ℕ) (parent : ℕ → ℕ) (held : List ℕ) (rest : List ℕ) (r
   turned-none e =
       subst (λ (slot : List ℕ). Turned parent slot held held rest rest 0) (sym (no-slot e)) (record { moves = refl; counted = refl; wrote = refl })
 
-  module _ (e : any ≡ true) where
-    pub turn-slot : turnSlot p relation own s held ≡ senders p chosen
+  module _ (e : any ≡ true) (may : List Bool) (holders : may ≡ tab places (holds held)) where
+    -- those that send in the end: the owners and all that join them
+    abbrev final : List Bool
+    final = joined p relation (λ v. getD may v false) chosen
+
+    final-joined : final ≡ joined p relation (holds held) owners′
+    final-joined =
+        ap₂ (λ (test : ℕ → Bool) (l : List Bool). joined p relation test l)
+        (flags-say may (holds held) held (ready .long) (λ v none. none) holders) (choice .chose e)
+
+    pub turn-slot : turnSlot p relation own s held ≡ senders p final
     unfolding turnSlot slotOf
     turn-slot =
         ap (λ (b : Bool). cond b (senders p (joined p relation (holds held) (ownersByLevel p relation own s (holds held)))) []) (sym (choice .owned) ∙ e)
-        ∙ ap (senders p) (sym (choice .chose e))
+        ∙ ap (senders p) (sym final-joined)
 
     -- the owner is a sender
-    pub not-empty : 1 ≤ length (senders p chosen)
+    pub not-empty : 1 ≤ length (senders p final)
     unfolding joined forEach
     not-empty =
         let found = some-where p (λ k. getD owners′ (k + 2) false) (sym (choice .owned) ∙ e) in
@@ -268,52 +263,56 @@ module _ (p : ℕ) (parent : ℕ → ℕ) (held : List ℕ) (rest : List ℕ) (r
         let flag : getD (joined p relation (holds held) owners′) (k + 2) false ≡ true =
         flags-stay relation (holds held) owners′ (owners-long p relation own s (holds held)) (k + 2) 0 p (omega arith) (omega (arith, found .1, ready .small)) (found .2)
         in
-        some-sender p (λ v. getD chosen v false) k (found .1) (ap (λ (l : List Bool). getD l (k + 2) false) (choice .chose e) ∙ flag)
+        some-sender p (λ v. getD final v false) k (found .1) (ap (λ (l : List Bool). getD l (k + 2) false) final-joined ∙ flag)
 
-    pub room-for : length (senders p chosen) + 1 ≤ length rest
+    room-for : length (senders p final) + 1 ≤ length rest
     room-for =
-        let bytes : length (slotBytes (made (senders p chosen))) ≡ length (senders p chosen) + 1 =
-        ap length (made-one (senders p chosen) not-empty) ∙ sym (add-one (length (senders p chosen)))
+        let bytes : length (slotBytes (made (senders p final))) ≡ length (senders p final) + 1 =
+        ap length (made-one (senders p final) not-empty) ∙ sym (add-one (length (senders p final)))
         in
         omega (arith, bytes, subst (λ (l : List ℕ). length (slotBytes (made l)) ≤ length rest) turn-slot (turn-bytes p parent held (length rest) ready relation own s))
 
-    can-all : (k : ℕ) → k < p → getD chosen (k + 2) false ≡ true → Sender parent held (k + 2)
+    -- what the writer asks for
+    pub may-write : (length chosen ≡ places) × (blocked ≡ blockedBy relation chosen) × (length (senders p final) + 1 ≤ length rest)
+    may-write = (ap length (choice .chose e) ∙ owners-long p relation own s (holds held), choice .knows e, room-for)
+
+    can-all : (k : ℕ) → k < p → getD final (k + 2) false ≡ true → Sender parent held (k + 2)
     can-all k h f =
         can-send p parent held (length rest) ready k h
-        (only-joined p relation (holds held) owners′ (only-owners p relation own s (holds held)) (k + 2) (sym (ap (λ (l : List Bool). getD l (k + 2) false) (choice .chose e)) ∙ f))
+        (only-joined p relation (holds held) owners′ (only-owners p relation own s (holds held)) (k + 2) (sym (ap (λ (l : List Bool). getD l (k + 2) false) final-joined) ∙ f))
 
     -- the slot, once it is written: its bytes end within the rest, and behind the count stand its senders, in rising number, that can send
-    module _ (rest′ : List ℕ) (bytes : ℕ) (w : Written (senders p chosen) rest rest′ bytes) where
+    module _ (rest′ : List ℕ) (bytes : ℕ) (w : Written (senders p final) rest rest′ bytes) where
       abbrev lent : List ℕ
       lent = take (bytes - 1) (drop 1 rest′)
 
       pub slot-ends : bytes ≤ length rest′
       slot-ends =
           let stays : length rest′ ≡ length rest =
-          ap length (w .wrote) ∙ length-front rest (length (senders p chosen) ∷ senders p chosen) (omega (arith, room-for))
+          ap length (w .wrote) ∙ length-front rest (length (senders p final) ∷ senders p final) (omega (arith, room-for))
           in
           omega (arith, w .counted, room-for)
 
-      slot-lent : lent ≡ senders p chosen
+      slot-lent : lent ≡ senders p final
       slot-lent =
-          let many : bytes - 1 ≡ length (senders p chosen) = omega (arith, w .counted) in
+          let many : bytes - 1 ≡ length (senders p final) = omega (arith, w .counted) in
           ap₂ (λ (n : ℕ) (l : List ℕ). take n (drop 1 l)) many (w .wrote)
-          ∙ take-at (senders p chosen) (drop (suc (length (senders p chosen))) rest) (length (senders p chosen)) refl
+          ∙ take-at (senders p final) (drop (suc (length (senders p final))) rest) (length (senders p final)) refl
 
       pub may-move : Rising 1 lent × ((i : ℕ) → i < length lent → Sender parent held (getD lent i 0))
       may-move =
           subst (λ (l : List ℕ). Rising 1 l × ((i : ℕ) → i < length l → Sender parent held (getD l i 0))) (sym slot-lent) (
-            rising-probes p (λ v. getD chosen v false),
-            at-each (Sender parent held) (senders p chosen) (each-probe (Sender parent held) p (λ v. getD chosen v false) can-all),
+            rising-probes p (λ v. getD final v false),
+            at-each (Sender parent held) (senders p final) (each-probe (Sender parent held) p (λ v. getD final v false) can-all),
           )
 
       pub turned-slot : (held′ : List ℕ) → held′ ≡ moved parent lent held → Turned parent (turnSlot p relation own s held) held held′ rest rest′ bytes
       turned-slot held′ m =
           record {
             moves = m ∙ ap (λ (l : List ℕ). moved parent l held) (slot-lent ∙ sym turn-slot);
-            counted = w .counted ∙ add-one (length (senders p chosen)) ∙ ap length (sym wrote);
+            counted = w .counted ∙ add-one (length (senders p final)) ∙ ap length (sym wrote);
             wrote = w .wrote ∙ ap (front rest) (sym wrote);
           }
         where
-          wrote : slotBytes (made (turnSlot p relation own s held)) ≡ length (senders p chosen) ∷ senders p chosen
-          wrote = ap (λ (l : List ℕ). slotBytes (made l)) turn-slot ∙ made-one (senders p chosen) not-empty
+          wrote : slotBytes (made (turnSlot p relation own s held)) ≡ length (senders p final) ∷ senders p final
+          wrote = ap (λ (l : List ℕ). slotBytes (made l)) turn-slot ∙ made-one (senders p final) not-empty

@@ -53,10 +53,11 @@ turnSlot p relation own s held = slotOf p relation (holds held) (ownersByLevel p
 abbrev pub nobody : List Bool
 nobody = replicate 65 false
 
--- after choosing the slot of colour s: whether anyone owns it, and if so who sends
-pub record Chosen (p : ℕ) (relation : ℕ → ℕ → Bool) (own : ℕ → ℕ) (s : ℕ) (held : List ℕ) (chosen : List Bool) (any : Bool) : Type 0 where
+-- after choosing the owners of the slot of colour s: whether there is any, and if so who they are and whom they block
+pub record Chosen (p : ℕ) (relation : ℕ → ℕ → Bool) (own : ℕ → ℕ) (s : ℕ) (held : List ℕ) (chosen blocked : List Bool) (any : Bool) : Type 0 where
   pub owned : any ≡ someProbe p (λ v. getD (ownersByLevel p relation own s (holds held)) v false)
-  pub chose : any ≡ true → chosen ≡ joined p relation (holds held) (ownersByLevel p relation own s (holds held))
+  pub chose : any ≡ true → chosen ≡ ownersByLevel p relation own s (holds held)
+  pub knows : any ≡ true → blocked ≡ blockedBy relation chosen
 
 -- the slots that a turn makes: one, or none where it has no sender
 abbrev pub made : List ℕ → List (List ℕ)

@@ -136,17 +136,27 @@ fn join(
     any
 }
 
-// Writes the slot of those chosen at the start of the rest of the buffer; says how many bytes it took.
-fn write_slot(rest: &mut [u8], p: u8, chosen: &[bool; 65]) -> usize
+// Writes the slot at the start of the rest of the buffer: the owners chosen and, each in its turn, those that join them; says how many bytes it took.
+fn write_slot(
+    rest: &mut [u8],
+    p: u8,
+    table: &[[bool; 65]; 65],
+    may: &[bool; 65],
+    chosen: &mut [bool; 65],
+    blocked: &mut [bool; 65],
+) -> usize
     requires small { ⌜ p ≤ 63 ⌝ }
-    requires room { ⌜ length (senders p (now chosen)) + 1 ≤ length (now rest) ⌝ }
-    ensures { λ r. ⌜ Written (senders p (now (chosen .entry))) (now (rest .entry)) (now (rest .exit)) r ⌝ }
+    requires long { ⌜ length (now chosen) ≡ 65 ⌝ }
+    requires known { ⌜ now blocked ≡ blockedBy (entry (now table)) (now chosen) ⌝ }
+    requires room { ⌜ length (senders p (joined p (entry (now table)) (λ u. getD (now may) u false) (now chosen))) + 1 ≤ length (now rest) ⌝ }
+    ensures { λ r. ⌜ Written (senders p (joined p (entry (now (table .entry))) (λ u. getD (now (may .entry)) u false) (now (chosen .entry)))) (now (rest .entry)) (now (rest .exit)) r ⌝ }
 {
     rest[0] = 0;
     let mut n: usize = 0;
     let mut k: u8 = 0;
     while k < p {
         let v = k + 2;
+        consider(table, may, Probe(v), chosen, blocked);
         if chosen[v as usize] {
             n += 1;
             rest[n] = v;
@@ -185,7 +195,7 @@ fn move_packets(parents: &[u8; 65], slot: &[u8], held: &mut [u16; 65])
     }
 }
 
-// Chooses the slot of colour s among those that hold a packet; says whether anyone owns it.
+// Chooses the owners of the slot of colour s; says whether there is any.
 fn choose(
     p: u8,
     table: &[[bool; 65]; 65],
@@ -193,23 +203,19 @@ fn choose(
     s: Colour,
     held: &[u16; 65],
     chosen: &mut [bool; 65],
+    blocked: &mut [bool; 65],
 ) -> bool
     requires small { ⌜ p ≤ 63 ⌝ }
     requires long { ⌜ length (now held) ≡ 65 ⌝ }
     requires fresh { ⌜ now chosen ≡ nobody ⌝ }
-    ensures { λ r. ⌜ Chosen p (entry (now (table .entry))) (λ v. getD (now (own .entry)) v 0) (s .0) (now (held .entry)) (now (chosen .exit)) r ⌝ }
+    requires free { ⌜ now blocked ≡ nobody ⌝ }
+    ensures { λ r. ⌜ Chosen p (entry (now (table .entry))) (λ v. getD (now (own .entry)) v 0) (s .0) (now (held .entry)) (now (chosen .exit)) (now (blocked .exit)) r ⌝ }
 {
     let mine = owning(own, s, held);
     if !any_of(&mine) {
         return false;
     }
-    let mut blocked = [false; 65];
-    if !join(p, table, &mine, chosen, &mut blocked) {
-        return false;
-    }
-    let all = holding(held);
-    join(p, table, &all, chosen, &mut blocked);
-    true
+    join(p, table, &mine, chosen, blocked)
 }
 
 // The turn of colour s: writes its slot at the start of the rest and moves its packets; says how many bytes it took, 0 where there is no slot.
@@ -226,10 +232,12 @@ fn turn(
     ensures { λ r. ⌜ Turned (λ u. getD (now (parents .entry)) u 0) (turnSlot p (entry (now (table .entry))) (λ v. getD (now (own .entry)) v 0) (s .0) (now (held .entry))) (now (held .entry)) (now (held .exit)) (now (rest .entry)) (now (rest .exit)) r ⌝ }
 {
     let mut chosen = [false; 65];
-    if !choose(p, table, own, s, held, &mut chosen) {
+    let mut blocked = [false; 65];
+    if !choose(p, table, own, s, held, &mut chosen, &mut blocked) {
         return 0;
     }
-    let bytes = write_slot(rest, p, &chosen);
+    let may = holding(held);
+    let bytes = write_slot(rest, p, table, &may, &mut chosen, &mut blocked);
     move_packets(parents, &rest[1..bytes], held);
     bytes
 }
