@@ -26,7 +26,7 @@ flags-say flags test held long only made =
     ∙ getD-places test false (λ u past. only u (le-ltb 0 (getD held u 0) (omega (arith, List·getD-eq-default held 0 {n = u} (omega arith))))) v)
 
 -- one more is chosen: it blocks all that it conflicts with
-some-set : (n : ℕ) (relation : ℕ → ℕ → Bool) (chosen : List Bool) (v i : ℕ) → v < n → v < length chosen
+pub some-set : (n : ℕ) (relation : ℕ → ℕ → Bool) (chosen : List Bool) (v i : ℕ) → v < n → v < length chosen
     → some n (λ x. getD (set chosen v true) x false && relation x i) ≡ (some n (λ x. getD chosen x false && relation x i) || relation v i)
 unfolding some
 some-set zero relation chosen v i h hl = absurd (not-suc-le-zero h)
@@ -119,14 +119,8 @@ module _ (relation : ℕ → ℕ → Bool) (may : ℕ → Bool) (before : List B
       kept true u a h = length-set a u true ∙ h
       kept false u a h = h
 
-  -- a turn after which nobody asks whether any was taken
-  pub joining-on : (k : ℕ) (chosen blocked : List Bool) (any : Bool) → Joining relation may before k chosen blocked any → (chosen′ blocked′ : List Bool) (b : Bool)
-      → Considered relation may (k + 2) chosen chosen′ blocked′ b → Joining relation may before (k + 1) chosen′ blocked′ (anyTaken (k + 1) relation may before)
-  joining-on k chosen blocked any now chosen′ blocked′ b turn =
-      let next = joining-next k chosen blocked any now chosen′ blocked′ b turn in record { chose = next .chose; knows = next .knows; took = refl }
-
   -- the flag of a probe that has had its turn stays as it is
-  flag-final : (k p : ℕ) → k < p → getD (joined (k + 1) relation may before) (k + 2) false ≡ getD (joined p relation may before) (k + 2) false
+  pub flag-final : (k p : ℕ) → k < p → getD (joined (k + 1) relation may before) (k + 2) false ≡ getD (joined p relation may before) (k + 2) false
   unfolding joined forEach
   flag-final k zero h = absurd (not-suc-le-zero h)
   flag-final k (suc p) h =
@@ -140,8 +134,3 @@ module _ (relation : ℕ → ℕ → Bool) (may : ℕ → Bool) (before : List B
       other : (b : Bool) (u : ℕ) (a : List Bool) → k + 2 ≢ u → getD (cond b (set a u true) a) (k + 2) false ≡ getD a (k + 2) false
       other true u a ne = getD-set-other a u (k + 2) true false ne
       other false u a ne = refl
-
-  -- so it says at once whether the probe sends
-  pub says : (k p : ℕ) → k < p → (chosen blocked : List Bool) (any : Bool) → Joining relation may before (k + 1) chosen blocked any
-      → getD (joined p relation may before) (k + 2) false ≡ getD chosen (k + 2) false
-  says k p h chosen blocked any now = sym (flag-final k p h) ∙ ap (λ (l : List Bool). getD l (k + 2) false) (sym (now .chose))

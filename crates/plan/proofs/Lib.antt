@@ -1,6 +1,7 @@
 -- Laws that belong to no one function.
 pub mod Lists
 pub mod Choosing
+pub mod Free
 pub mod Writing
 pub mod Sending
 pub mod Turning

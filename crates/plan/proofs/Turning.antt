@@ -238,15 +238,13 @@ module _ (p : ℕ) (parent : ℕ → ℕ) (held : List ℕ) (rest : List ℕ) (r
   turned-none e =
       subst (λ (slot : List ℕ). Turned parent slot held held rest rest 0) (sym (no-slot e)) (record { moves = refl; counted = refl; wrote = refl })
 
-  module _ (e : any ≡ true) (may : List Bool) (holders : may ≡ tab places (holds held)) where
+  module _ (e : any ≡ true) where
     -- those that send in the end: the owners and all that join them
     abbrev final : List Bool
-    final = joined p relation (λ v. getD may v false) chosen
+    final = joined p relation (holds held) chosen
 
     final-joined : final ≡ joined p relation (holds held) owners′
-    final-joined =
-        ap₂ (λ (test : ℕ → Bool) (l : List Bool). joined p relation test l)
-        (flags-say may (holds held) held (ready .long) (λ v none. none) holders) (choice .chose e)
+    final-joined = ap (λ (l : List Bool). joined p relation (holds held) l) (choice .chose e)
 
     pub turn-slot : turnSlot p relation own s held ≡ senders p final
     unfolding turnSlot slotOf

@@ -1,6 +1,6 @@
 // The two planners: a sheet and a lent buffer in, the plan or a numbered refusal out.
 ghost use mathlib.Core.Path.{_≡_};
-ghost use mathlib.Core.Bool.{Bool, true, false, cond, _||_, _&&_};
+ghost use mathlib.Core.Bool.{Bool, true, false, cond, not, _||_, _&&_};
 ghost use mathlib.Core.List.{List, [], _∷_, _++_};
 ghost use Prim.Native.Nat.{ℕ, _+_, _-_, _*_, _≤_, _<_};
 ghost use lib.Dec.{eqb, ltb};
@@ -57,19 +57,6 @@ fn owning(own: &[u8; 65], s: Colour, held: &[u16; 65]) -> [bool; 65]
     let mut i = 0;
     while i < 65 {
         flags[i] = (own[i] == colour) & (0 < held[i]);
-        i += 1;
-    }
-    flags
-}
-
-// Who holds a packet, by node.
-fn holding(held: &[u16; 65]) -> [bool; 65]
-    ensures { λ r. ⌜ r ≡ tab places (holds (now (held .entry))) ⌝ }
-{
-    let mut flags = [false; 65];
-    let mut i = 0;
-    while i < 65 {
-        flags[i] = 0 < held[i];
         i += 1;
     }
     flags
@@ -136,30 +123,57 @@ fn join(
     any
 }
 
-// Writes the slot at the start of the rest of the buffer: the owners chosen and, each in its turn, those that join them; says how many bytes it took.
+// Who is to send if its turn comes now, by node: an owner, or one that holds a packet and conflicts with no owner.
+fn free_to_send(held: &[u16; 65], owners: &[bool; 65], blocked: &[bool; 65]) -> [bool; 65]
+    ensures { λ r. ⌜ r ≡ tab places (λ v. getD (now (owners .entry)) v false || holds (now (held .entry)) v && not (getD (now (blocked .entry)) v false)) ⌝ }
+{
+    let mut free = [false; 65];
+    let mut i = 0;
+    while i < 65 {
+        free[i] = owners[i] | ((0 < held[i]) & !blocked[i]);
+        i += 1;
+    }
+    free
+}
+
+// One more sends: whoever conflicts with it is no longer free, but the owners stay.
+fn shut(row: &[bool; 65], owners: &[bool; 65], free: &mut [bool; 65])
+    requires { ⌜ length (now free) ≡ 65 ⌝ }
+    ensures { λ _. ⌜ now (free .exit) ≡ tab places (λ v. getD (now (owners .entry)) v false || getD (now (free .entry)) v false && not (getD (now (row .entry)) v false)) ⌝ }
+{
+    let mut i = 0;
+    while i < 65 {
+        free[i] = owners[i] | (free[i] & !row[i]);
+        i += 1;
+    }
+}
+
+// Writes the slot of these owners, and of those that join them, at the start of the rest of the buffer; says how many bytes it took.
 fn write_slot(
     rest: &mut [u8],
     p: u8,
     table: &[[bool; 65]; 65],
-    may: &[bool; 65],
-    chosen: &mut [bool; 65],
-    blocked: &mut [bool; 65],
+    held: &[u16; 65],
+    owners: &[bool; 65],
+    blocked: &[bool; 65],
 ) -> usize
     requires small { ⌜ p ≤ 63 ⌝ }
-    requires long { ⌜ length (now chosen) ≡ 65 ⌝ }
-    requires known { ⌜ now blocked ≡ blockedBy (entry (now table)) (now chosen) ⌝ }
-    requires room { ⌜ length (senders p (joined p (entry (now table)) (λ u. getD (now may) u false) (now chosen))) + 1 ≤ length (now rest) ⌝ }
-    ensures { λ r. ⌜ Written (senders p (joined p (entry (now (table .entry))) (λ u. getD (now (may .entry)) u false) (now (chosen .entry)))) (now (rest .entry)) (now (rest .exit)) r ⌝ }
+    requires long { ⌜ length (now owners) ≡ 65 ⌝ }
+    requires known { ⌜ now blocked ≡ blockedBy (entry (now table)) (now owners) ⌝ }
+    requires room { ⌜ length (senders p (joined p (entry (now table)) (holds (now held)) (now owners))) + 1 ≤ length (now rest) ⌝ }
+    ensures { λ r. ⌜ Written (senders p (joined p (entry (now (table .entry))) (holds (now (held .entry))) (now (owners .entry)))) (now (rest .entry)) (now (rest .exit)) r ⌝ }
 {
+    let mut free = free_to_send(held, owners, blocked);
     rest[0] = 0;
     let mut n: usize = 0;
     let mut k: u8 = 0;
     while k < p {
         let v = k + 2;
-        consider(table, may, Probe(v), chosen, blocked);
-        if chosen[v as usize] {
+        let i = v as usize;
+        if free[i] {
             n += 1;
             rest[n] = v;
+            shut(&table[i], owners, &mut free);
         }
         k += 1;
     }
@@ -236,8 +250,7 @@ fn turn(
     if !choose(p, table, own, s, held, &mut chosen, &mut blocked) {
         return 0;
     }
-    let may = holding(held);
-    let bytes = write_slot(rest, p, table, &may, &mut chosen, &mut blocked);
+    let bytes = write_slot(rest, p, table, held, &chosen, &blocked);
     move_packets(parents, &rest[1..bytes], held);
     bytes
 }

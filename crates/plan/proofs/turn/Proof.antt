@@ -13,15 +13,14 @@ use Rattle.plan.proofs.turn.Tie as tie
 use Rattle.plan.proofs.turn.Reads as reads
 use Rattle.plan.proofs.turn.Lts as lts
 use Rattle.plan.proofs.choose.Reads as choose-reads
-use Rattle.plan.proofs.holding.Reads as holding-reads
 use Rattle.plan.proofs.move_packets.Reads as move-packets-reads
 use Rattle.plan.proofs.write_slot.Reads as write-slot-reads
 
--- src/lib.rt:236:9
+-- src/lib.rt:250:9
 choose-requires : tie.Need-choose-requires
 choose-requires c κs = let ready = c .before .before .before .before .pre in (ready .small, (ready .long, (refl, refl)))
 
--- src/lib.rt:237:9
+-- src/lib.rt:251:9
 returns : tie.Need-returns
 returns c =
     let start = c .before .before .before .before .before .before in
@@ -31,73 +30,69 @@ returns c =
     let own : ℕ → ℕ = λ v. getD (a .own .now) v 0 in
     turned-none (a .p) parent (a .held .now) (a .rest .now) (start .pre) (entry (a .table .now)) own (a .s .0) _ _ (choose .result) (choose .ensures) (not-true (choose .result) (c .if1 .taken))
 
--- src/lib.rt:239:15
-holding-requires : tie.Need-holding-requires
-holding-requires c κs = search needs
-
--- src/lib.rt:240:9
+-- src/lib.rt:253:9
 write-slot-requires : tie.Need-write-slot-requires
 write-slot-requires c κs =
-    let start = c .before .before .before .before .before .before .before .before .before .before .before .before in
+    let start = c .before .before .before .before .before .before .before .before .before .before in
     let a = start .args in
-    let choose = c .before .before .before .before .before .before .before .choose in
+    let choose = c .before .before .before .before .before .choose in
     let parent : ℕ → ℕ = λ u. getD (a .parents .now) u 0 in
     let own : ℕ → ℕ = λ v. getD (a .own .now) v 0 in
     let asked =
     may-write (a .p) parent (a .held .now) (a .rest .now) (start .pre) (entry (a .table .now)) own (a .s .0) _ _ (choose .result) (choose .ensures)
-    (not-false (choose .result) (c .before .before .before .before .before .before .if1 .left)) (c .before .before .before .before .holding .result) (c .before .before .before .before .holding .ensures)
+    (not-false (choose .result) (c .before .before .before .before .if1 .left))
     in
     (start .pre .small, (asked .0, (asked .1, asked .2)))
 
--- src/lib.rt:241:27
+-- src/lib.rt:254:27
 sub-move-packets : tie.Need-sub-move-packets
 sub-move-packets c = search needs
 
--- src/lib.rt:241:27
+-- src/lib.rt:254:27
 part-move-packets-start : tie.Need-part-move-packets-start
 part-move-packets-start c = search needs
 
--- src/lib.rt:241:27
+-- src/lib.rt:254:27
 part-move-packets-end : tie.Need-part-move-packets-end
 part-move-packets-end c =
-    let start = c .before .before .before .before .before .before .before .before .before .before .before .before .before .before .before .before in
+    let start = c .before .before .before .before .before .before .before .before .before .before .before .before .before .before in
     let a = start .args in
-    let choose = c .before .before .before .before .before .before .before .before .before .before .before .choose in
+    let choose = c .before .before .before .before .before .before .before .before .before .choose in
     let parent : ℕ → ℕ = λ u. getD (a .parents .now) u 0 in
     let own : ℕ → ℕ = λ v. getD (a .own .now) v 0 in
     slot-ends (a .p) parent (a .held .now) (a .rest .now) (start .pre) (entry (a .table .now)) own (a .s .0) _ _ (choose .result) (choose .ensures)
-    (not-false (choose .result) (c .before .before .before .before .before .before .before .before .before .before .if1 .left)) (c .before .before .before .before .before .before .before .before .holding .result) (c .before .before .before .before .before .before .before .before .holding .ensures) _ _ (c .before .before .before .write-slot .ensures)
+    (not-false (choose .result) (c .before .before .before .before .before .before .before .before .if1 .left)) _ _ (c .before .before .before .write-slot .ensures)
 
--- src/lib.rt:241:5
+-- src/lib.rt:254:5
 move-packets-requires : tie.Need-move-packets-requires
 move-packets-requires c κs =
-    let start = c .before .before .before .before .before .before .before .before .before .before .before .before .before .before .before .before .before .before in
+    let start = c .before .before .before .before .before .before .before .before .before .before .before .before .before .before .before .before in
     let a = start .args in
-    let choose = c .before .before .before .before .before .before .before .before .before .before .before .before .before .choose in
+    let choose = c .before .before .before .before .before .before .before .before .before .before .before .choose in
     let parent : ℕ → ℕ = λ u. getD (a .parents .now) u 0 in
     let own : ℕ → ℕ = λ v. getD (a .own .now) v 0 in (
       start .pre .long,
       (
         start .pre .few,
         may-move (a .p) parent (a .held .now) (a .rest .now) (start .pre) (entry (a .table .now)) own (a .s .0) _ _ (choose .result) (choose .ensures)
-            (not-false (choose .result) (c .before .before .before .before .before .before .before .before .before .before .before .before .if1 .left)) (c .before .before .before .before .before .before .before .before .before .before .holding .result) (c .before .before .before .before .before .before .before .before .before .before .holding .ensures) _ _ (c .before .before .before .before .before .write-slot .ensures),
+            (not-false (choose .result) (c .before .before .before .before .before .before .before .before .before .before .if1 .left)) _ _ (c .before .before .before .before .before .write-slot .ensures),
       ),
     )
 
--- src/lib.rt:222:1
+-- src/lib.rt:236:1
 same-length : tie.Need-same-length
 same-length c = search needs
 
--- src/lib.rt:222:1
+-- src/lib.rt:236:1
 returns-2 : tie.Need-returns-2
 returns-2 c =
-    let start = c .before .before .before .before .before .before .before .before .before .before .before .before .before .before .before .before .before .before .before in
+    let start = c .before .before .before .before .before .before .before .before .before .before .before .before .before .before .before .before .before in
     let a = start .args in
-    let choose = c .before .before .before .before .before .before .before .before .before .before .before .before .before .before .choose in
+    let choose = c .before .before .before .before .before .before .before .before .before .before .before .before .choose in
     let parent : ℕ → ℕ = λ u. getD (a .parents .now) u 0 in
     let own : ℕ → ℕ = λ v. getD (a .own .now) v 0 in
     turned-slot (a .p) parent (a .held .now) (a .rest .now) (start .pre) (entry (a .table .now)) own (a .s .0) _ _ (choose .result) (choose .ensures)
-    (not-false (choose .result) (c .before .before .before .before .before .before .before .before .before .before .before .before .before .if1 .left)) (c .before .before .before .before .before .before .before .before .before .before .before .holding .result) (c .before .before .before .before .before .before .before .before .before .before .before .holding .ensures) _ _ (c .before .before .before .before .before .before .write-slot .ensures) _ (c .move-packets .ensures)
+    (not-false (choose .result) (c .before .before .before .before .before .before .before .before .before .before .before .if1 .left)) _ _ (c .before .before .before .before .before .before .write-slot .ensures) _ (c .move-packets .ensures)
 
 pub turn-spec : {M : Type 1} → statement M
 turn-spec =
@@ -105,7 +100,6 @@ turn-spec =
     (tie.spec
     choose-requires
     returns
-    holding-requires
     write-slot-requires
     sub-move-packets
     part-move-packets-start
