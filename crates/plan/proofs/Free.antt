@@ -7,7 +7,7 @@ use Prim.Native.Nat.{ℕ, zero, suc, _+_, _≤_, _<_}
 use native.Mathlib.Omega.{arith}
 use lib.ListN.{length, getD, set}
 use lib.Seq.{getD-set-same, getD-set-other, set-getD}
-use Rattle.meaning.specs.Words.{forEach, some, tab, places}
+use Rattle.meaning.specs.Words.{forEach, tab, places}
 use Rattle.meaning.specs.Rounds.{clashes, joins, joined}
 use Rattle.meaning.proofs.Slots.{never}
 use Rattle.meaning.proofs.Turns.{forEach-one, tab-same, getD-tab}

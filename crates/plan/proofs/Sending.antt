@@ -2,17 +2,16 @@
 -- Assumes nothing.
 use mathlib.Core.Path.{_≡_, sym, ap, _∙_, subst}
 use mathlib.Core.List.{List, [], _∷_}
-use mathlib.Core.Logic.{_≢_, ⊎-elim}
-use Prim.Native.Nat.{ℕ, zero, suc, _+_, _-_, _≤_, _<_}
+use mathlib.Core.Logic.{_≢_}
+use Prim.Native.Nat.{ℕ, zero, suc, _+_, _≤_, _<_}
 use native.Mathlib.Nat.{not-suc-le-zero}
 use native.Mathlib.Numerals.{add-one}
 use native.Mathlib.Omega.{arith}
-use lib.ListN.{length, getD, set, take, length-take}
-use lib.Seq.{getD-set-same, getD-set-other, getD-take, take-suc, take-all}
+use lib.ListN.{length, getD, take, length-take}
+use lib.Seq.{getD-take, take-suc, take-all}
 use Rattle.meaning.specs.Words.{places}
 use Rattle.meaning.specs.Rounds.{hop, moved}
-use Rattle.meaning.proofs.Turns.{same-or-other}
-use Rattle.meaning.proofs.Moving.{weigh, Each, Rising, Sender, moved-append, moved-keeps, length-moved, kept, in-all}
+use Rattle.meaning.proofs.Moving.{weigh, Each, Rising, Sender, moved-append, moved-keeps, length-moved, kept}
 
 -- each of a list, told by places, and back
 each-at : (P : ℕ → Type 0) (slot : List ℕ) → ((i : ℕ) → i < length slot → P (getD slot i 0)) → Each P slot

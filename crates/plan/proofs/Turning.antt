@@ -1,23 +1,23 @@
 -- A turn of a colour: who owns its slot, that the slot is not empty where one owns it, and what is left to do after it.
 -- Assumes nothing.
-use mathlib.Core.Path.{_≡_, refl, sym, ap, ap₂, _∙_, subst, fun-ext}
-use mathlib.Core.Bool.{Bool, true, false, cond, not, _&&_, _||_, and-false}
-use mathlib.Core.List.{List, [], _∷_, _++_, append-nil}
+use mathlib.Core.Path.{_≡_, refl, sym, ap, ap₂, _∙_, subst}
+use mathlib.Core.Bool.{Bool, true, false, cond, not, _&&_, and-false}
+use mathlib.Core.List.{List, [], _∷_, append-nil}
 use mathlib.Core.Logic.{_≢_, ⊎-elim}
 use Prim.Native.Nat.{ℕ, zero, suc, _+_, _-_, _*_, _≤_, _<_}
 use native.Mathlib.Nat.{not-suc-le-zero}
 use native.Mathlib.Omega.{arith}
-use borrow.Author.Tests.{ne-eqb, ltb-true}
-use lib.Dec.{eqb, ltb}
+use borrow.Author.Tests.{ltb-true}
+use lib.Dec.{eqb}
 use native.Mathlib.Numerals.{add-one}
 use lib.ListN.{length, getD, set, take, drop, replicate, length-append}
 use lib.Seq.{getD-set-same, getD-set-other, take-at}
 use Rattle.meaning.specs.Words.{forEach, some, tab, places, probesThat, someProbe}
 use Rattle.meaning.specs.Plan.{front, slotBytes}
 use Rattle.meaning.specs.Rounds.{holds, clashes, joins, joined, senders, slotOf, ownersByProbe, ownersByLevel, moved}
-use Rattle.meaning.proofs.Turns.{below-or-last, forEach-keeps, forEach-one, some-found, some-none, none-some, some-where, some-one, same-or-other}
+use Rattle.meaning.proofs.Turns.{below-or-last, forEach-one, some-found, some-none, none-some, some-where, same-or-other}
 use Rattle.meaning.proofs.Moving.{weigh, Each, Rising, Sender, weigh-moved, weigh-up, kept, length-moved}
-use Rattle.meaning.proofs.Slots.{Only, only-joined, each-probe, each-slot, each-so, rising-slot, rising-probes, and-left, and-right, never, true-or-false}
+use Rattle.meaning.proofs.Slots.{Only, only-joined, each-probe, each-slot, each-so, rising-slot, rising-probes, and-right, never}
 use Rattle.plan.specs.Turn.{blockedBy, anyTaken, Joining, nobody, Chosen, Ready, Written, Turned, turnSlot, made}
 use Rattle.meaning.specs.Yard.{levelBy}
 use Rattle.plan.proofs.Choosing.{flags-say, joining-long}

@@ -5,7 +5,7 @@ ghost use mathlib.Core.List.{List, [], _∷_, _++_};
 ghost use Prim.Native.Nat.{ℕ, _+_, _-_, _*_, _≤_, _<_};
 ghost use lib.Dec.{eqb, ltb};
 ghost use lib.ListN.{length, getD, drop, take};
-ghost use Rattle.meaning.specs.Words.{some, tab, places, probesThat};
+ghost use Rattle.meaning.specs.Words.{some, tab, places};
 ghost use Rattle.meaning.specs.Plan.{front, roomFor};
 ghost use Rattle.meaning.specs.Answer.{given, _then_, planAnswer, planBuffer};
 ghost use Rattle.meaning.specs.Conflict.{entry};

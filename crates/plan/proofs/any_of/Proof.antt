@@ -1,6 +1,6 @@
 -- `plan::any_of` meets its contract: before place i it has looked at all flags.
 -- Assumes nothing.
-use mathlib.Core.Path.{_≡_, refl, sym, ap, _∙_, subst}
+use mathlib.Core.Path.{_≡_, refl, sym, ap, _∙_}
 use mathlib.Core.Bool.{Bool, false, _||_}
 use Prim.Native.Nat.{ℕ, _-_, _≤_}
 use lib.ListN.{getD}
@@ -19,31 +19,25 @@ Inv-loop flags any₀ i₀ any i = (i ≤ 65) × (any ≡ some i (λ v. getD fla
 abbrev μ-loop : tie.MeasureT-loop
 μ-loop flags any₀ i₀ any i = 65 - i
 
--- src/lib.rt:84:5
 loop-holds : tie.Need-loop-holds Inv-loop μ-loop
 unfolding some
 loop-holds c = (search needs, refl)
 
--- src/lib.rt:85:21
 element-copy-out-any : tie.Need-element-copy-out-any Inv-loop μ-loop
 element-copy-out-any c = search needs
 
--- src/lib.rt:86:9
 add-i : tie.Need-add-i Inv-loop μ-loop
 add-i c = search needs
 
--- src/lib.rt:84:5
 loop-less : tie.Need-loop-less Inv-loop μ-loop
 loop-less c = search needs
 
--- src/lib.rt:84:5
 loop-again : tie.Need-loop-again Inv-loop μ-loop
 loop-again c =
     let flags = c .before .before .before .args .flags .now in
     let l = c .before .before .loop in
     (search needs, ap (λ (b : Bool). b || getD flags (l .i) false) (l .inv .1) ∙ sym (some-one (l .i) (λ v. getD flags v false)))
 
--- src/lib.rt:79:1
 returns : tie.Need-returns Inv-loop μ-loop
 returns c =
     let l = c .before .loop in

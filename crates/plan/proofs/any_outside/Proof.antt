@@ -21,50 +21,40 @@ Inv-loop p held k₀ k = (k ≤ p) × (someProbe k (holds held) ≡ false)
 abbrev μ-loop : tie.MeasureT-loop
 μ-loop p held k₀ k = p - k
 
--- src/lib.rt:233:5
 loop-holds : tie.Need-loop-holds Inv-loop μ-loop
 unfolding some
 loop-holds c = (search needs, refl)
 
--- src/lib.rt:234:18
 add-v : tie.Need-add-v Inv-loop μ-loop
 add-v c = search needs
 
--- src/lib.rt:234:17
 cast-v : tie.Need-cast-v Inv-loop μ-loop
 cast-v c = search needs
 
--- src/lib.rt:235:12
 mul-if1 : tie.Need-mul-if1 Inv-loop μ-loop
 mul-if1 c = search needs
 
--- src/lib.rt:235:12
 element-copy-out-if1 : tie.Need-element-copy-out-if1 Inv-loop μ-loop
 element-copy-out-if1 c = search needs
 
--- src/lib.rt:236:13
 returns : tie.Need-returns Inv-loop μ-loop
 returns c =
     let held = c .before .before .before .before .args .held .now in
     let k = c .before .before .before .loop .k in
     sym (some-found (c .before .before .before .before .args .p) (λ j. holds held (j + 2)) k (c .before .before .loop-test .taken) (lt-ltb 0 (getD held (k + 2) 0) (omega (arith, c .if1 .taken))))
 
--- src/lib.rt:238:9
 add-k : tie.Need-add-k Inv-loop μ-loop
 add-k c = search needs
 
--- src/lib.rt:233:5
 loop-less : tie.Need-loop-less Inv-loop μ-loop
 loop-less c = search needs
 
--- src/lib.rt:233:5
 loop-again : tie.Need-loop-again Inv-loop μ-loop
 loop-again c =
     let held = c .before .before .before .before .args .held .now in
     let l = c .before .before .before .loop in
     (search needs, some-one (l .k) (λ j. holds held (j + 2)) ∙ ap₂ _||_ (l .inv .1) (le-ltb 0 (getD held (l .k + 2) 0) (omega (arith, c .if1 .left))))
 
--- src/lib.rt:228:1
 returns-2 : tie.Need-returns-2 Inv-loop μ-loop
 returns-2 c =
     let l = c .before .loop in

@@ -18,38 +18,30 @@ Inv-loop row blocked₀ i₀ blocked i = Becoming 65 i (λ k. getD blocked₀ k 
 abbrev μ-loop : tie.MeasureT-loop
 μ-loop row blocked₀ i₀ blocked i = 65 - i
 
--- src/lib.rt:20:5
 loop-holds : tie.Need-loop-holds Inv-loop μ-loop
 loop-holds c = becoming-start 65 _ _ (c .pre)
 
--- src/lib.rt:21:22
 element-copy-out-blocked : tie.Need-element-copy-out-blocked Inv-loop μ-loop
 element-copy-out-blocked c = search needs
 
--- src/lib.rt:21:35
 element-copy-out-blocked-2 : tie.Need-element-copy-out-blocked-2 Inv-loop μ-loop
 element-copy-out-blocked-2 c = search needs
 
--- src/lib.rt:21:9
 element-write-blocked : tie.Need-element-write-blocked Inv-loop μ-loop
 element-write-blocked c = search needs
 
--- src/lib.rt:22:9
 add-i : tie.Need-add-i Inv-loop μ-loop
 add-i c = search needs
 
--- src/lib.rt:20:5
 loop-less : tie.Need-loop-less Inv-loop μ-loop
 loop-less c = search needs
 
--- src/lib.rt:20:5
 loop-again : tie.Need-loop-again Inv-loop μ-loop
 loop-again c =
     let l = c .before .before .before .loop in
     becoming-next 65 (l .i) _ _ (l .blocked) _ (l .inv) (c .before .before .loop-test .taken)
     (ap (λ b. b || getD (c .before .before .before .before .args .row .now) (l .i) false) (next-place 65 (l .i) _ _ (l .blocked) false (l .inv)))
 
--- src/lib.rt:16:1
 returns : tie.Need-returns Inv-loop μ-loop
 returns c = becoming-whole 65 _ _ _ (c .before .loop .inv) (c .loop-test .left)
 

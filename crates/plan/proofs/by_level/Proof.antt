@@ -21,15 +21,12 @@ use Rattle.sheet.proofs.pair_count.Reads as pair-count-reads
 use Rattle.sheet.proofs.pair_records.Reads as pair-records-reads
 use Rattle.walk.proofs.depth.Reads as depth-reads
 
--- src/lib.rt:425:9
 prepare-requires : tie.Need-prepare-requires
 prepare-requires c κs = search needs
 
--- src/lib.rt:428:9
 refused-plan-requires : tie.Need-refused-plan-requires
 refused-plan-requires c κs = search needs
 
--- src/lib.rt:428:9
 returns : tie.Need-returns
 returns c =
     let start = c .before .before .before .before .before .before .before in
@@ -39,39 +36,30 @@ returns c =
     let refused = refuses s buffer (prepared .result) (prepared .ensures) (byLevel s) (c .before .if1 .taken) in
     (c .refused-plan .ensures ∙ refused .0, refused .1)
 
--- src/lib.rt:433:45
 pair-records-requires : tie.Need-pair-records-requires
 pair-records-requires c κs = search needs
 
--- src/lib.rt:433:73
 pair-count-requires : tie.Need-pair-count-requires
 pair-count-requires c κs = search needs
 
--- src/lib.rt:433:9
 table-requires : tie.Need-table-requires
 table-requires c κs = search needs
 
--- src/lib.rt:434:9
 depth-requires : tie.Need-depth-requires
 depth-requires c κs = search needs
 
--- src/lib.rt:435:9
 level-table-requires : tie.Need-level-table-requires
 level-table-requires c κs = search needs
 
--- src/lib.rt:436:9
 colouring-requires : tie.Need-colouring-requires
 colouring-requires c κs = search needs
 
--- src/lib.rt:437:9
 colours-by-level-requires : tie.Need-colours-by-level-requires
 colours-by-level-requires c κs = search needs
 
--- src/lib.rt:438:9
 used-requires : tie.Need-used-requires
 used-requires c κs = search needs
 
--- src/lib.rt:439:5
 finish-requires : tie.Need-finish-requires
 finish-requires c κs =
     let start = c .before .before .before .before .before .before .before .before .before .before .before .before .before .before .before .before .before .before in
@@ -81,11 +69,9 @@ finish-requires c κs =
     let passed = c .before .before .before .before .before .before .before .before .before .before .before .before .if1 .left in
     (two s buffer (prepared .result) (prepared .ensures) passed, (ready s buffer (prepared .result) (prepared .ensures) passed, few s buffer (prepared .result) (prepared .ensures) passed))
 
--- src/lib.rt:421:1
 same-length : tie.Need-same-length
 same-length c = search needs
 
--- src/lib.rt:421:1
 returns-2 : tie.Need-returns-2
 returns-2 c =
     let start = c .before .before .before .before .before .before .before .before .before .before .before .before .before .before .before .before .before .before .before .before .before in

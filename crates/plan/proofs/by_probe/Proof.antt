@@ -18,15 +18,12 @@ use Rattle.plan.proofs.prepare.Reads as prepare-reads
 use Rattle.sheet.proofs.pair_count.Reads as pair-count-reads
 use Rattle.sheet.proofs.pair_records.Reads as pair-records-reads
 
--- src/lib.rt:407:9
 prepare-requires : tie.Need-prepare-requires
 prepare-requires c κs = search needs
 
--- src/lib.rt:410:9
 refused-plan-requires : tie.Need-refused-plan-requires
 refused-plan-requires c κs = search needs
 
--- src/lib.rt:410:9
 returns : tie.Need-returns
 returns c =
     let start = c .before .before .before .before .before .before .before in
@@ -36,27 +33,21 @@ returns c =
     let refused = refuses s buffer (prepared .result) (prepared .ensures) (byProbe s) (c .before .if1 .taken) in
     (c .refused-plan .ensures ∙ refused .0, refused .1)
 
--- src/lib.rt:414:45
 pair-records-requires : tie.Need-pair-records-requires
 pair-records-requires c κs = search needs
 
--- src/lib.rt:414:73
 pair-count-requires : tie.Need-pair-count-requires
 pair-count-requires c κs = search needs
 
--- src/lib.rt:414:9
 table-requires : tie.Need-table-requires
 table-requires c κs = search needs
 
--- src/lib.rt:415:9
 colouring-requires : tie.Need-colouring-requires
 colouring-requires c κs = search needs
 
--- src/lib.rt:416:9
 used-requires : tie.Need-used-requires
 used-requires c κs = search needs
 
--- src/lib.rt:417:5
 finish-requires : tie.Need-finish-requires
 finish-requires c κs =
     let start = c .before .before .before .before .before .before .before .before .before .before .before .before .before in
@@ -66,11 +57,9 @@ finish-requires c κs =
     let passed = c .before .before .before .before .before .before .before .if1 .left in
     (two s buffer (prepared .result) (prepared .ensures) passed, (ready s buffer (prepared .result) (prepared .ensures) passed, few s buffer (prepared .result) (prepared .ensures) passed))
 
--- src/lib.rt:403:1
 same-length : tie.Need-same-length
 same-length c = search needs
 
--- src/lib.rt:403:1
 returns-2 : tie.Need-returns-2
 returns-2 c =
     let start = c .before .before .before .before .before .before .before .before .before .before .before .before .before .before .before .before in

@@ -1,6 +1,6 @@
 -- `plan::choose` meets its contract: where no flag is up there is no owner, and otherwise the owners are those taken one by one.
 -- Assumes nothing.
-use mathlib.Core.Path.{_≡_, sym, ap, _∙_, subst}
+use mathlib.Core.Path.{sym, ap, _∙_, subst}
 use mathlib.Core.Bool.{Bool, false}
 use mathlib.Core.List.{List}
 use Prim.Native.Nat.{ℕ}
@@ -9,7 +9,6 @@ use lib.ListN.{length, getD}
 use Rattle.meaning.specs.Conflict.{entry}
 use Rattle.plan.specs.Turn.{blockedBy, Joining}
 use Rattle.plan.proofs.Turning.{unblocked, chosen-nobody, chosen-first}
-use native.Mathlib.Omega.{arith}
 use borrow.Author.Needs.{needs}
 use Rattle.plan.proofs.choose.Statement.{statement}
 use Rattle.plan.proofs.choose.Tie as tie
@@ -19,15 +18,12 @@ use Rattle.plan.proofs.any_of.Reads as any-of-reads
 use Rattle.plan.proofs.join.Reads as join-reads
 use Rattle.plan.proofs.owning.Reads as owning-reads
 
--- src/lib.rt:214:16
 owning-requires : tie.Need-owning-requires
 owning-requires c κs = search needs
 
--- src/lib.rt:215:9
 any-of-requires : tie.Need-any-of-requires
 any-of-requires c κs = search needs
 
--- src/lib.rt:216:9
 returns : tie.Need-returns
 returns c =
     let start = c .before .before .before .before in
@@ -37,14 +33,12 @@ returns c =
     chosen-nobody (a .p) (entry (a .table .now)) own (a .s .0) (a .held .now) (start .pre .1 .0) (mine .result) (mine .ensures) (start .pre .0)
     (sym (c .before .any-of .ensures) ∙ not-true (c .before .any-of .result) (c .if1 .taken)) _ _
 
--- src/lib.rt:218:5
 join-requires : tie.Need-join-requires
 join-requires c κs =
     let start = c .before .before .before .before .before .before .before in
     let fresh = start .pre .1 .1 .0 in
     (start .pre .0, (ap length fresh, start .pre .1 .1 .1 ∙ unblocked _ ∙ ap (blockedBy (entry (start .args .table .now))) (sym fresh)))
 
--- src/lib.rt:199:1
 returns-2 : tie.Need-returns-2
 returns-2 c =
     let start = c .before .before .before .before .before .before .before .before in

@@ -18,45 +18,35 @@ Inv-loop levels colours own₀ v₀ own v = Becoming 65 v (λ u. getD colours (g
 abbrev μ-loop : tie.MeasureT-loop
 μ-loop levels colours own₀ v₀ own v = 65 - v
 
--- src/lib.rt:395:5
 loop-holds : tie.Need-loop-holds Inv-loop μ-loop
 loop-holds c = becoming-start 65 _ _ refl
 
--- src/lib.rt:396:37
 slice-aggregate-number-at : tie.Need-slice-aggregate-number-at Inv-loop μ-loop
 slice-aggregate-number-at c = search needs
 
--- src/lib.rt:396:47
 array-read-number-at : tie.Need-array-read-number-at Inv-loop μ-loop
 array-read-number-at c = search needs
 
--- src/lib.rt:396:47
 cast-number-at : tie.Need-cast-number-at Inv-loop μ-loop
 cast-number-at c = search needs
 
--- src/lib.rt:396:18
 number-at-requires : tie.Need-number-at-requires Inv-loop μ-loop
 number-at-requires c κs = search needs
 
--- src/lib.rt:396:9
 array-write-own : tie.Need-array-write-own Inv-loop μ-loop
 array-write-own c = search needs
 
--- src/lib.rt:397:9
 add-v : tie.Need-add-v Inv-loop μ-loop
 add-v c = search needs
 
--- src/lib.rt:395:5
 loop-less : tie.Need-loop-less Inv-loop μ-loop
 loop-less c = search needs
 
--- src/lib.rt:395:5
 loop-again : tie.Need-loop-again Inv-loop μ-loop
 loop-again c =
     let l = c .before .before .before .loop in
     becoming-next 65 (l .v) _ _ (l .own) _ (l .inv) (c .before .before .loop-test .taken) (c .number-at .ensures)
 
--- src/lib.rt:390:1
 returns : tie.Need-returns Inv-loop μ-loop
 returns c = becoming-whole 65 _ _ _ (c .before .loop .inv) (c .loop-test .left)
 

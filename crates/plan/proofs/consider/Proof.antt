@@ -1,6 +1,6 @@
 -- `plan::consider` meets its contract: each return has the tests that led there, and `block` adds the row of the probe taken.
 -- Assumes nothing.
-use mathlib.Core.Path.{_≡_, refl, ap, _∙_}
+use mathlib.Core.Path.{refl, ap, _∙_}
 use mathlib.Core.Bool.{false}
 use mathlib.Core.List.{[]}
 use borrow.Author.Tests.{not-true, not-false}
@@ -10,7 +10,6 @@ use Rattle.meaning.specs.Conflict.{entry}
 use Rattle.meaning.specs.Rounds.{clashes}
 use Rattle.meaning.proofs.Turns.{length-tab}
 use Rattle.plan.proofs.Choosing.{not-allowed, not-free, taken}
-use native.Mathlib.Omega.{arith}
 use borrow.Author.Needs.{needs}
 use Rattle.plan.proofs.consider.Statement.{statement}
 use Rattle.plan.proofs.consider.Tie as tie
@@ -18,15 +17,12 @@ use Rattle.plan.proofs.consider.Reads as reads
 use Rattle.plan.proofs.consider.Lts as lts
 use Rattle.plan.proofs.block.Reads as block-reads
 
--- src/lib.rt:104:13
 cast-i : tie.Need-cast-i
 cast-i c = search needs
 
--- src/lib.rt:105:9
 element-copy-out-if1 : tie.Need-element-copy-out-if1
 element-copy-out-if1 c = search needs
 
--- src/lib.rt:106:9
 returns : tie.Need-returns
 returns c =
     let start = c .before .before .before in
@@ -34,36 +30,29 @@ returns c =
     not-allowed _ _ (a .v .0) (a .chosen .now) (a .blocked .now) (start .pre .0) (start .pre .1 .0) (start .pre .1 .1)
     (not-true (getD (a .may .now) (a .v .0) false) (c .if1 .taken))
 
--- src/lib.rt:108:8
 element-copy-out-if2 : tie.Need-element-copy-out-if2
 element-copy-out-if2 c = search needs
 
--- src/lib.rt:109:9
 returns-2 : tie.Need-returns-2
 returns-2 c =
     let start = c .before .before .before .before .before in
     let a = start .args in
     not-free _ _ (a .v .0) (a .chosen .now) (a .blocked .now) (start .pre .0) (start .pre .1 .0) (start .pre .1 .1) (c .if2 .taken)
 
--- src/lib.rt:111:5
 element-write-chosen : tie.Need-element-write-chosen
 element-write-chosen c = search needs
 
--- src/lib.rt:112:11
 mul-block : tie.Need-mul-block
 mul-block c = search needs
 
--- src/lib.rt:112:11
 index-1-block : tie.Need-index-1-block
 index-1-block c = search needs
 
--- src/lib.rt:112:5
 block-requires : tie.Need-block-requires
 block-requires c κs =
     let start = c .before .before .before .before .before .before .before in
     ap length (start .pre .1 .1) ∙ length-tab places (clashes (entry (start .args .table .now)) (start .args .chosen .now))
 
--- src/lib.rt:92:1
 returns-3 : tie.Need-returns-3
 returns-3 c =
     let start = c .before .before .before .before .before .before .before .before in

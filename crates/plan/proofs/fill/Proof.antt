@@ -18,23 +18,18 @@ use Rattle.plan.proofs.fill.Lts as lts
 use Rattle.plan.proofs.run.Reads as run-reads
 use Rattle.plan.proofs.wide.Reads as wide-reads
 
--- src/lib.rt:308:20
 wide-requires : tie.Need-wide-requires
 wide-requires c κs = search needs
 
--- src/lib.rt:309:67
 sub-run : tie.Need-sub-run
 sub-run c = search needs
 
--- src/lib.rt:309:67
 part-run-start : tie.Need-part-run-start
 part-run-start c = search needs
 
--- src/lib.rt:309:67
 part-run-end : tie.Need-part-run-end
 part-run-end c = search needs
 
--- src/lib.rt:309:9
 run-requires : tie.Need-run-requires
 run-requires c κs =
     let start = c .before .before .before .before .before .before .before in
@@ -44,33 +39,26 @@ run-requires c κs =
     in
     subst₂ (λ (h : List ℕ) (r : ℕ). Ready (a .p) (λ u. getD (a .t2) u 0) h r) (sym (c .before .before .before .before .before .wide .ensures)) room (start .pre .1 .0)
 
--- src/lib.rt:312:14
 cast-buf : tie.Need-cast-buf
 cast-buf c = search needs
 
--- src/lib.rt:312:5
 slice-write-buf : tie.Need-slice-write-buf
 slice-write-buf c = search needs
 
--- src/lib.rt:313:14
 cast-buf-2 : tie.Need-cast-buf-2
 cast-buf-2 c = search needs
 
--- src/lib.rt:313:5
 slice-write-buf-2 : tie.Need-slice-write-buf-2
 slice-write-buf-2 c =
     let start = c .before .before .before .before .before .before .before .before .before .before in
     simp length-set (omega (arith, start .pre .0, c .before .buf .given))
 
--- src/lib.rt:315:16
 add-t25 : tie.Need-add-t25
 add-t25 c = search needs
 
--- src/lib.rt:293:1
 same-length : tie.Need-same-length
 same-length c = search needs
 
--- src/lib.rt:293:1
 returns : tie.Need-returns
 returns c =
     let start = c .before .before .before .before .before .before .before .before .before .before in

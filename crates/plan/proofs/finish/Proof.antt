@@ -10,33 +10,26 @@ use Rattle.plan.proofs.finish.Lts as lts
 use Rattle.meaning.proofs.refused_plan.Reads as refused-plan-reads
 use Rattle.plan.proofs.fill.Reads as fill-reads
 
--- src/lib.rt:372:9
 fill-requires : tie.Need-fill-requires
 fill-requires c κs = search needs
 
--- src/lib.rt:375:9
 refused-plan-requires : tie.Need-refused-plan-requires
 refused-plan-requires c κs = search needs
 
--- src/lib.rt:375:9
 same-length : tie.Need-same-length
 same-length c = search needs
 
--- src/lib.rt:375:9
 returns : tie.Need-returns
 returns c =
     let filled = c .before .before .before .before .fill .ensures in
     absurd (omega (arith, filled .few, filled .made, c .before .if1 .taken))
 
--- src/lib.rt:380:16
 cast-t16 : tie.Need-cast-t16
 cast-t16 c = search needs
 
--- src/lib.rt:363:1
 same-length-2 : tie.Need-same-length-2
 same-length-2 c = search needs
 
--- src/lib.rt:363:1
 returns-2 : tie.Need-returns-2
 returns-2 c =
     let filled = c .before .before .before .fill .ensures in

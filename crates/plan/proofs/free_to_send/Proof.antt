@@ -1,12 +1,11 @@
 -- `plan::free_to_send` meets its contract: before place i the flags are set.
 -- Assumes nothing.
-use mathlib.Core.Path.{_≡_, refl}
+use mathlib.Core.Path.{refl}
 use mathlib.Core.Bool.{false, not, _&&_, _||_}
 use Prim.Native.Nat.{_-_}
 use lib.ListN.{getD}
 use Rattle.meaning.specs.Rounds.{holds}
 use Rattle.plan.proofs.Lists.{Becoming, becoming-start, becoming-next, becoming-whole}
-use native.Mathlib.Omega.{arith}
 use borrow.Author.Needs.{needs}
 use Rattle.plan.proofs.free_to_send.Statement.{statement}
 use Rattle.plan.proofs.free_to_send.Tie as tie
@@ -19,45 +18,35 @@ Inv-loop held owners blocked free₀ i₀ free i = Becoming 65 i (λ v. getD own
 abbrev μ-loop : tie.MeasureT-loop
 μ-loop held owners blocked free₀ i₀ free i = 65 - i
 
--- src/lib.rt:132:5
 loop-holds : tie.Need-loop-holds Inv-loop μ-loop
 loop-holds c = becoming-start 65 _ _ refl
 
--- src/lib.rt:133:19
 element-copy-out-free : tie.Need-element-copy-out-free Inv-loop μ-loop
 element-copy-out-free c = search needs
 
--- src/lib.rt:133:37
 mul-free : tie.Need-mul-free Inv-loop μ-loop
 mul-free c = search needs
 
--- src/lib.rt:133:37
 element-copy-out-free-2 : tie.Need-element-copy-out-free-2 Inv-loop μ-loop
 element-copy-out-free-2 c = search needs
 
--- src/lib.rt:133:49
 element-copy-out-free-3 : tie.Need-element-copy-out-free-3 Inv-loop μ-loop
 element-copy-out-free-3 c = search needs
 
--- src/lib.rt:133:9
 array-write-free : tie.Need-array-write-free Inv-loop μ-loop
 array-write-free c = search needs
 
--- src/lib.rt:134:9
 add-i : tie.Need-add-i Inv-loop μ-loop
 add-i c = search needs
 
--- src/lib.rt:132:5
 loop-less : tie.Need-loop-less Inv-loop μ-loop
 loop-less c = search needs
 
--- src/lib.rt:132:5
 loop-again : tie.Need-loop-again Inv-loop μ-loop
 loop-again c =
     let l = c .before .before .before .before .loop in
     becoming-next 65 (l .i) _ _ (l .free) _ (l .inv) (c .before .before .before .loop-test .taken) refl
 
--- src/lib.rt:127:1
 returns : tie.Need-returns Inv-loop μ-loop
 returns c = becoming-whole 65 _ _ _ (c .before .loop .inv) (c .loop-test .left)
 

@@ -9,42 +9,33 @@ use Rattle.plan.proofs.hop.Tie as tie
 use Rattle.plan.proofs.hop.Reads as reads
 use Rattle.plan.proofs.hop.Lts as lts
 
--- src/lib.rt:123:5
 cast-i : tie.Need-cast-i
 cast-i c = search needs
 
 mul-held : tie.Need-mul-held
 mul-held c = search needs
 
--- src/lib.rt:123:5
 element-copy-out-held : tie.Need-element-copy-out-held
 element-copy-out-held c = search needs
 
--- src/lib.rt:123:5
 sub-held : tie.Need-sub-held
 sub-held c = search needs
 
--- src/lib.rt:123:5
 element-write-held : tie.Need-element-write-held
 element-write-held c = search needs
 
--- src/lib.rt:124:14
 element-copy-out-up : tie.Need-element-copy-out-up
 element-copy-out-up c = search needs
 
--- src/lib.rt:124:14
 cast-up : tie.Need-cast-up
 cast-up c = search needs
 
--- src/lib.rt:125:5
 mul-held-2 : tie.Need-mul-held-2
 mul-held-2 c = search needs
 
--- src/lib.rt:125:5
 element-copy-out-held-2 : tie.Need-element-copy-out-held-2
 element-copy-out-held-2 c = search needs
 
--- src/lib.rt:125:5
 add-held : tie.Need-add-held
 add-held c =
     let start = c .before .before .before .before in
@@ -54,11 +45,9 @@ add-held c =
       less-few (a .held .now) (a .v .0) (getD (a .parents .now) (a .v .0) 0) 945 (start .pre .0) (start .pre .1 .1 .1) (start .pre .1 .1 .2) (start .pre .1 .0),
     )
 
--- src/lib.rt:125:5
 element-write-held-2 : tie.Need-element-write-held-2
 element-write-held-2 c = search needs
 
--- src/lib.rt:117:1
 returns : tie.Need-returns
 returns c = search needs
 

@@ -22,35 +22,29 @@ Inv-loop p table may chosen₀ blocked₀ any₀ k₀ chosen blocked any k =
 abbrev μ-loop : tie.MeasureT-loop
 μ-loop p table may chosen₀ blocked₀ any₀ k₀ chosen blocked any k = p - k
 
--- src/lib.rt:85:5
 loop-holds : tie.Need-loop-holds Inv-loop μ-loop
 loop-holds c = (search needs, joining-start _ _ _ _ (c .pre .1 .1))
 
 add-t10 : tie.Need-add-t10 Inv-loop μ-loop
 add-t10 c = search needs
 
--- src/lib.rt:87:13
 consider-requires : tie.Need-consider-requires Inv-loop μ-loop
 consider-requires c κs =
     let start = c .before .before .before .before in
     let now = c .before .before .before .loop .inv .1 in
     (search needs, (ap length (now .chose) ∙ joining-long _ _ (start .args .chosen .now) _ ∙ start .pre .1 .0, now .knows))
 
--- src/lib.rt:89:9
 add-k : tie.Need-add-k Inv-loop μ-loop
 add-k c = search needs
 
--- src/lib.rt:85:5
 loop-less : tie.Need-loop-less Inv-loop μ-loop
 loop-less c = search needs
 
--- src/lib.rt:85:5
 loop-again : tie.Need-loop-again Inv-loop μ-loop
 loop-again c =
     let l = c .before .before .before .before .loop in
     (search needs, joining-next _ _ _ (l .k) (l .chosen) (l .blocked) (l .any) (l .inv .1) _ _ _ (c .consider .ensures))
 
--- src/lib.rt:69:1
 returns : tie.Need-returns Inv-loop μ-loop
 returns c =
     let a = c .before .before .args in

@@ -1,13 +1,12 @@
 -- `plan::owning` meets its contract: before place i the flags are set.
 -- Assumes nothing.
-use mathlib.Core.Path.{_≡_, refl}
+use mathlib.Core.Path.{refl}
 use mathlib.Core.Bool.{_&&_}
 use lib.Dec.{eqb}
 use lib.ListN.{getD}
 use Rattle.meaning.specs.Rounds.{holds, ownersByProbe}
 use Prim.Native.Nat.{_-_}
 use Rattle.plan.proofs.Lists.{Becoming, becoming-start, becoming-next, becoming-whole}
-use native.Mathlib.Omega.{arith}
 use borrow.Author.Needs.{needs}
 use Rattle.plan.proofs.owning.Statement.{statement}
 use Rattle.plan.proofs.owning.Tie as tie
@@ -20,41 +19,32 @@ Inv-loop own held colour flags₀ i₀ flags i = Becoming 65 i (λ v. eqb (getD 
 abbrev μ-loop : tie.MeasureT-loop
 μ-loop own held colour flags₀ i₀ flags i = 65 - i
 
--- src/lib.rt:58:5
 loop-holds : tie.Need-loop-holds Inv-loop μ-loop
 loop-holds c = becoming-start 65 _ _ refl
 
--- src/lib.rt:59:21
 element-copy-out-flags : tie.Need-element-copy-out-flags Inv-loop μ-loop
 element-copy-out-flags c = search needs
 
--- src/lib.rt:59:46
 mul-flags : tie.Need-mul-flags Inv-loop μ-loop
 mul-flags c = search needs
 
--- src/lib.rt:59:46
 element-copy-out-flags-2 : tie.Need-element-copy-out-flags-2 Inv-loop μ-loop
 element-copy-out-flags-2 c = search needs
 
--- src/lib.rt:59:9
 array-write-flags : tie.Need-array-write-flags Inv-loop μ-loop
 array-write-flags c = search needs
 
--- src/lib.rt:60:9
 add-i : tie.Need-add-i Inv-loop μ-loop
 add-i c = search needs
 
--- src/lib.rt:58:5
 loop-less : tie.Need-loop-less Inv-loop μ-loop
 loop-less c = search needs
 
--- src/lib.rt:58:5
 loop-again : tie.Need-loop-again Inv-loop μ-loop
 loop-again c =
     let l = c .before .before .before .loop in
     becoming-next 65 (l .i) _ _ (l .flags) _ (l .inv) (c .before .before .loop-test .taken) refl
 
--- src/lib.rt:52:1
 returns : tie.Need-returns Inv-loop μ-loop
 unfolding ownersByProbe
 returns c = becoming-whole 65 _ _ _ (c .before .loop .inv) (c .loop-test .left)

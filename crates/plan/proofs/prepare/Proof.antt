@@ -12,23 +12,18 @@ use Rattle.sheet.proofs.read.Reads as read-reads
 use Rattle.walk.proofs.hops.Reads as hops-reads
 use Rattle.walk.proofs.levels.Reads as levels-reads
 
--- src/lib.rt:349:9
 read-requires : tie.Need-read-requires
 read-requires c κs = search needs
 
--- src/lib.rt:353:18
 levels-requires : tie.Need-levels-requires
 levels-requires c κs = search needs
 
--- src/lib.rt:354:9
 hops-requires : tie.Need-hops-requires
 hops-requires c κs = search needs
 
--- src/lib.rt:355:9
 room-test-requires : tie.Need-room-test-requires
 room-test-requires c κs = search needs
 
--- src/lib.rt:346:1
 returns : tie.Need-returns
 returns c =
     let start = c .before .before .before .before .before .before .before .before .before .before in

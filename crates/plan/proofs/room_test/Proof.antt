@@ -11,25 +11,20 @@ use Rattle.plan.proofs.room_test.Tie as tie
 use Rattle.plan.proofs.room_test.Reads as reads
 use Rattle.plan.proofs.room_test.Lts as lts
 
--- src/lib.rt:337:9
 returns : tie.Need-returns
 returns c = sym (then-stays (c .before .before .args .outcome) _ (ne-eqb (c .before .before .args .outcome .number) 0 (c .if1 .taken)))
 
--- src/lib.rt:339:19
 mul-if2 : tie.Need-mul-if2
 mul-if2 c = search needs
 
--- src/lib.rt:339:15
 add-if2 : tie.Need-add-if2
 add-if2 c = search needs
 
--- src/lib.rt:340:9
 returns-2 : tie.Need-returns-2
 returns-2 c =
     let a = c .before .before .before .args in
     room-short (a .outcome) (a .room) (a .hops) (c .before .if1 .left) (c .if2 .taken)
 
--- src/lib.rt:333:1
 returns-3 : tie.Need-returns-3
 returns-3 c =
     let a = c .before .before .before .args in

@@ -1,14 +1,12 @@
 -- `plan::round` meets its contract: the first s colours have had their turn, and each slot stands behind the one before.
 -- Assumes nothing.
 use mathlib.Core.Path.{_≡_, refl, sym, ap, _∙_, subst}
-use mathlib.Core.List.{List}
-use Prim.Native.Nat.{ℕ, _+_, _-_, _≤_}
+use Prim.Native.Nat.{ℕ, _-_, _≤_}
 use lib.ListN.{length, getD, take, drop, length-drop}
-use Rattle.meaning.specs.Conflict.{entry}
 use Rattle.meaning.specs.Rounds.{Progress}
-use Rattle.plan.specs.Turn.{Ready, Turned, turnSlot}
+use Rattle.plan.specs.Turn.{Ready}
 use Rattle.plan.specs.Going.{Going}
-use Rattle.plan.proofs.Going.{turns, turns-all, going-start, going-next, going-long, part-from, put-behind}
+use Rattle.plan.proofs.Going.{turns, turns-all, going-start, going-next, going-long, part-from}
 use native.Mathlib.Omega.{arith}
 use borrow.Author.Needs.{needs}
 use Rattle.plan.proofs.round.Statement.{statement}
@@ -25,33 +23,27 @@ Inv-loop p parents table own m held₀ rest₀ at₀ slots₀ s₀ held rest at 
 abbrev μ-loop : tie.MeasureT-loop
 μ-loop p parents table own m held₀ rest₀ at₀ slots₀ s₀ held rest at slots s = m - s
 
--- src/lib.rt:218:5
 loop-holds : tie.Need-loop-holds Inv-loop μ-loop
 loop-holds c =
     let a = c .before .args in
     (search needs, going-start (a .p) (a .parents .now) (a .table .now) (a .own .now) (a .m) (a .held .now) (a .rest .now) (c .before .pre))
 
--- src/lib.rt:219:57
 add-t13 : tie.Need-add-t13 Inv-loop μ-loop
 add-t13 c = search needs
 
--- src/lib.rt:219:71
 sub-turn : tie.Need-sub-turn Inv-loop μ-loop
 sub-turn c =
     let l = c .before .before .loop in
     omega (arith, going-long (l .inv .1), l .inv .1 .within)
 
--- src/lib.rt:219:71
 part-turn-start : tie.Need-part-turn-start Inv-loop μ-loop
 part-turn-start c =
     let l = c .before .before .loop in
     omega (arith, going-long (l .inv .1), l .inv .1 .within)
 
--- src/lib.rt:219:71
 part-turn-end : tie.Need-part-turn-end Inv-loop μ-loop
 part-turn-end c = search needs
 
--- src/lib.rt:219:13
 turn-requires : tie.Need-turn-requires Inv-loop μ-loop
 turn-requires c κs =
     let a = c .before .before .before .before .before .args in
@@ -61,41 +53,33 @@ turn-requires c κs =
     in
     subst (λ (r : ℕ). Ready (a .p) (λ u. getD (a .parents .now) u 0) (l .held) r) room (l .inv .1 .ready)
 
--- src/lib.rt:220:9
 add-at : tie.Need-add-at Inv-loop μ-loop
 add-at c =
     let l = c .before .before .before .before .before .before .loop in
     omega (arith, going-next _ _ _ _ _ _ _ _ _ _ _ _ (l .inv .1) _ _ _ (c .before .before .turn .ensures) _ refl .within, c .before .before .before .before .before .before .before .before .good .1 .1 .1 .1 .1 .1 .0 .0)
 
--- src/lib.rt:221:18
 slots-in-requires : tie.Need-slots-in-requires Inv-loop μ-loop
 slots-in-requires c κs = search needs
 
--- src/lib.rt:221:9
 add-slots : tie.Need-add-slots Inv-loop μ-loop
 add-slots c =
     let l = c .before .before .before .before .before .before .before .loop in
     let next = going-next _ _ _ _ _ _ _ _ _ _ _ _ (l .inv .1) _ _ _ (c .before .before .before .turn .ensures) _ (c .slots-in .ensures) in
     omega (arith, next .within, next .fewer, c .before .before .before .before .before .before .before .before .before .good .1 .1 .1 .1 .1 .1 .0 .0)
 
--- src/lib.rt:222:9
 add-s : tie.Need-add-s Inv-loop μ-loop
 add-s c = search needs
 
--- src/lib.rt:218:5
 loop-less : tie.Need-loop-less Inv-loop μ-loop
 loop-less c = search needs
 
--- src/lib.rt:218:5
 loop-again : tie.Need-loop-again Inv-loop μ-loop
 loop-again c =
     (search needs, going-next _ _ _ _ _ _ _ _ _ _ _ _ (c .before .before .before .before .before .before .before .loop .inv .1) _ _ _ (c .before .before .before .turn .ensures) _ (c .slots-in .ensures))
 
--- src/lib.rt:203:1
 same-length : tie.Need-same-length Inv-loop μ-loop
 same-length c = going-long (c .before .loop .inv .1)
 
--- src/lib.rt:203:1
 returns : tie.Need-returns Inv-loop μ-loop
 returns c =
     let a = c .before .before .before .args in

@@ -26,21 +26,17 @@ Inv-loop p parents table own m hops held₀ rest₀ at₀ slots₀ r₀ held res
 abbrev μ-loop : tie.MeasureT-loop
 μ-loop p parents table own m hops held₀ rest₀ at₀ slots₀ r₀ held rest at slots r = hops - r
 
--- src/lib.rt:260:5
 loop-holds : tie.Need-loop-holds Inv-loop μ-loop
 loop-holds c =
     let a = c .before .args in
     (search needs, rounds-start (a .p) (a .parents .now) (a .table .now) (a .own .now) (a .m) (a .held .now) (a .rest .now) (c .before .pre))
 
--- src/lib.rt:261:13
 any-outside-requires : tie.Need-any-outside-requires Inv-loop μ-loop
 any-outside-requires c κs = c .before .before .before .before .pre .small
 
--- src/lib.rt:262:13
 same-length : tie.Need-same-length Inv-loop μ-loop
 same-length c = going-long (c .before .before .before .before .loop .inv .1)
 
--- src/lib.rt:262:13
 returns : tie.Need-returns Inv-loop μ-loop
 returns c =
     let a = c .before .before .before .before .before .before .args in
@@ -52,23 +48,19 @@ returns c =
     subst (λ (now : Progress). Going (a .p) (λ u. getD (a .parents .now) u 0) now (l .held) (a .rest .now) (l .rest) (l .at) (l .slots))
     (sym (rounds-stop (a .p) (a .parents .now) (a .table .now) (a .own .now) (a .m) (l .r) (a .hops) (a .held .now) (l .inv .0) home)) (l .inv .1)
 
--- src/lib.rt:264:59
 sub-round : tie.Need-sub-round Inv-loop μ-loop
 sub-round c =
     let l = c .before .before .before .before .before .loop in
     omega (arith, going-long (l .inv .1), l .inv .1 .within)
 
--- src/lib.rt:264:59
 part-round-start : tie.Need-part-round-start Inv-loop μ-loop
 part-round-start c =
     let l = c .before .before .before .before .before .loop in
     omega (arith, going-long (l .inv .1), l .inv .1 .within)
 
--- src/lib.rt:264:59
 part-round-end : tie.Need-part-round-end Inv-loop μ-loop
 part-round-end c = search needs
 
--- src/lib.rt:264:13
 round-requires : tie.Need-round-requires Inv-loop μ-loop
 round-requires c κs =
     let a = c .before .before .before .before .before .before .before .before .args in
@@ -78,7 +70,6 @@ round-requires c κs =
     in
     subst (λ (r : ℕ). Ready (a .p) (λ u. getD (a .parents .now) u 0) (l .held) r) room (l .inv .1 .ready)
 
--- src/lib.rt:265:9
 add-at : tie.Need-add-at Inv-loop μ-loop
 add-at c =
     let a = c .before .before .before .before .before .before .before .before .before .before .before .before .args in
@@ -90,7 +81,6 @@ add-at c =
     in
     omega (arith, next .within, c .before .before .before .before .before .before .before .before .before .before .before .before .good .1 .1 .1 .1 .1 .1 .1 .0 .0)
 
--- src/lib.rt:266:9
 add-slots : tie.Need-add-slots Inv-loop μ-loop
 add-slots c =
     let a = c .before .before .before .before .before .before .before .before .before .before .before .before .before .args in
@@ -102,15 +92,12 @@ add-slots c =
     in
     omega (arith, next .within, next .fewer, c .before .before .before .before .before .before .before .before .before .before .before .before .before .good .1 .1 .1 .1 .1 .1 .1 .0 .0)
 
--- src/lib.rt:267:9
 add-r : tie.Need-add-r Inv-loop μ-loop
 add-r c = search needs
 
--- src/lib.rt:260:5
 loop-less : tie.Need-loop-less Inv-loop μ-loop
 loop-less c = search needs
 
--- src/lib.rt:260:5
 loop-again : tie.Need-loop-again Inv-loop μ-loop
 loop-again c =
     let a = c .before .before .before .before .before .before .before .before .before .before .before .before .before .args in
@@ -122,11 +109,9 @@ loop-again c =
     in
     (search needs, next)
 
--- src/lib.rt:244:1
 same-length-2 : tie.Need-same-length-2 Inv-loop μ-loop
 same-length-2 c = going-long (c .before .loop .inv .1)
 
--- src/lib.rt:244:1
 returns-2 : tie.Need-returns-2 Inv-loop μ-loop
 returns-2 c =
     let a = c .before .before .before .args in

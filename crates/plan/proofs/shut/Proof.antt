@@ -1,11 +1,10 @@
 -- `plan::shut` meets its contract: before place i those in conflict are shut, behind it the flags stand as they came.
 -- Assumes nothing.
-use mathlib.Core.Path.{_≡_, refl, ap}
+use mathlib.Core.Path.{ap}
 use mathlib.Core.Bool.{Bool, false, not, _&&_, _||_}
 use Prim.Native.Nat.{_-_}
 use lib.ListN.{getD}
 use Rattle.plan.proofs.Lists.{Becoming, becoming-start, next-place, becoming-next, becoming-whole}
-use native.Mathlib.Omega.{arith}
 use borrow.Author.Needs.{needs}
 use Rattle.plan.proofs.shut.Statement.{statement}
 use Rattle.plan.proofs.shut.Tie as tie
@@ -18,35 +17,27 @@ Inv-loop row owners free₀ i₀ free i = Becoming 65 i (λ v. getD owners v fal
 abbrev μ-loop : tie.MeasureT-loop
 μ-loop row owners free₀ i₀ free i = 65 - i
 
--- src/lib.rt:145:5
 loop-holds : tie.Need-loop-holds Inv-loop μ-loop
 loop-holds c = becoming-start 65 _ _ (c .pre)
 
--- src/lib.rt:146:19
 element-copy-out-free : tie.Need-element-copy-out-free Inv-loop μ-loop
 element-copy-out-free c = search needs
 
--- src/lib.rt:146:32
 element-copy-out-free-2 : tie.Need-element-copy-out-free-2 Inv-loop μ-loop
 element-copy-out-free-2 c = search needs
 
--- src/lib.rt:146:43
 element-copy-out-free-3 : tie.Need-element-copy-out-free-3 Inv-loop μ-loop
 element-copy-out-free-3 c = search needs
 
--- src/lib.rt:146:9
 element-write-free : tie.Need-element-write-free Inv-loop μ-loop
 element-write-free c = search needs
 
--- src/lib.rt:147:9
 add-i : tie.Need-add-i Inv-loop μ-loop
 add-i c = search needs
 
--- src/lib.rt:145:5
 loop-less : tie.Need-loop-less Inv-loop μ-loop
 loop-less c = search needs
 
--- src/lib.rt:145:5
 loop-again : tie.Need-loop-again Inv-loop μ-loop
 loop-again c =
     let a = c .before .before .before .before .before .args in
@@ -54,7 +45,6 @@ loop-again c =
     becoming-next 65 (l .i) _ _ (l .free) _ (l .inv) (c .before .before .before .loop-test .taken)
     (ap (λ (b : Bool). getD (a .owners .now) (l .i) false || b && not (getD (a .row .now) (l .i) false)) (next-place 65 (l .i) _ _ (l .free) false (l .inv)))
 
--- src/lib.rt:140:1
 returns : tie.Need-returns Inv-loop μ-loop
 returns c = becoming-whole 65 _ _ _ (c .before .loop .inv) (c .loop-test .left)
 

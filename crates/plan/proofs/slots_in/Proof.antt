@@ -10,11 +10,9 @@ use Rattle.plan.proofs.slots_in.Tie as tie
 use Rattle.plan.proofs.slots_in.Reads as reads
 use Rattle.plan.proofs.slots_in.Lts as lts
 
--- src/lib.rt:197:9
 returns : tie.Need-returns
 returns c = sym (ap (λ (b : Bool). cond b 0 1) (eq-eqb (c .before .args .bytes) 0 (c .if1 .taken)))
 
--- src/lib.rt:193:1
 returns-2 : tie.Need-returns-2
 returns-2 c = sym (ap (λ (b : Bool). cond b 0 1) (ne-eqb (c .before .args .bytes) 0 (c .if1 .left)))
 

@@ -6,7 +6,6 @@ use borrow.Author.Tests.{not-true, not-false}
 use lib.ListN.{getD}
 use Rattle.meaning.specs.Conflict.{entry}
 use Rattle.plan.proofs.Turning.{turned-none, turned-slot, may-write, slot-ends, may-move}
-use native.Mathlib.Omega.{arith}
 use borrow.Author.Needs.{needs}
 use Rattle.plan.proofs.turn.Statement.{statement}
 use Rattle.plan.proofs.turn.Tie as tie
@@ -16,11 +15,9 @@ use Rattle.plan.proofs.choose.Reads as choose-reads
 use Rattle.plan.proofs.move_packets.Reads as move-packets-reads
 use Rattle.plan.proofs.write_slot.Reads as write-slot-reads
 
--- src/lib.rt:250:9
 choose-requires : tie.Need-choose-requires
 choose-requires c κs = let ready = c .before .before .before .before .pre in (ready .small, (ready .long, (refl, refl)))
 
--- src/lib.rt:251:9
 returns : tie.Need-returns
 returns c =
     let start = c .before .before .before .before .before .before in
@@ -30,7 +27,6 @@ returns c =
     let own : ℕ → ℕ = λ v. getD (a .own .now) v 0 in
     turned-none (a .p) parent (a .held .now) (a .rest .now) (start .pre) (entry (a .table .now)) own (a .s .0) _ _ (choose .result) (choose .ensures) (not-true (choose .result) (c .if1 .taken))
 
--- src/lib.rt:253:9
 write-slot-requires : tie.Need-write-slot-requires
 write-slot-requires c κs =
     let start = c .before .before .before .before .before .before .before .before .before .before in
@@ -44,15 +40,12 @@ write-slot-requires c κs =
     in
     (start .pre .small, (asked .0, (asked .1, asked .2)))
 
--- src/lib.rt:254:27
 sub-move-packets : tie.Need-sub-move-packets
 sub-move-packets c = search needs
 
--- src/lib.rt:254:27
 part-move-packets-start : tie.Need-part-move-packets-start
 part-move-packets-start c = search needs
 
--- src/lib.rt:254:27
 part-move-packets-end : tie.Need-part-move-packets-end
 part-move-packets-end c =
     let start = c .before .before .before .before .before .before .before .before .before .before .before .before .before .before in
@@ -63,7 +56,6 @@ part-move-packets-end c =
     slot-ends (a .p) parent (a .held .now) (a .rest .now) (start .pre) (entry (a .table .now)) own (a .s .0) _ _ (choose .result) (choose .ensures)
     (not-false (choose .result) (c .before .before .before .before .before .before .before .before .if1 .left)) _ _ (c .before .before .before .write-slot .ensures)
 
--- src/lib.rt:254:5
 move-packets-requires : tie.Need-move-packets-requires
 move-packets-requires c κs =
     let start = c .before .before .before .before .before .before .before .before .before .before .before .before .before .before .before .before in
@@ -79,11 +71,9 @@ move-packets-requires c κs =
       ),
     )
 
--- src/lib.rt:236:1
 same-length : tie.Need-same-length
 same-length c = search needs
 
--- src/lib.rt:236:1
 returns-2 : tie.Need-returns-2
 returns-2 c =
     let start = c .before .before .before .before .before .before .before .before .before .before .before .before .before .before .before .before .before in

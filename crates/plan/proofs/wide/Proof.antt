@@ -18,39 +18,30 @@ Inv-loop packets held₀ i₀ held i = Becoming 65 i (λ k. getD packets k 0) he
 abbrev μ-loop : tie.MeasureT-loop
 μ-loop packets held₀ i₀ held i = 65 - i
 
--- src/lib.rt:285:5
 loop-holds : tie.Need-loop-holds Inv-loop μ-loop
 loop-holds c = becoming-start 65 _ _ refl
 
--- src/lib.rt:286:19
 array-read-held : tie.Need-array-read-held Inv-loop μ-loop
 array-read-held c = search needs
 
--- src/lib.rt:286:19
 cast-held : tie.Need-cast-held Inv-loop μ-loop
 cast-held c = search needs
 
--- src/lib.rt:286:9
 mul-held : tie.Need-mul-held Inv-loop μ-loop
 mul-held c = search needs
 
--- src/lib.rt:286:9
 array-write-held : tie.Need-array-write-held Inv-loop μ-loop
 array-write-held c = search needs
 
--- src/lib.rt:287:9
 add-i : tie.Need-add-i Inv-loop μ-loop
 add-i c = search needs
 
--- src/lib.rt:285:5
 loop-less : tie.Need-loop-less Inv-loop μ-loop
 loop-less c = search needs
 
--- src/lib.rt:285:5
 loop-again : tie.Need-loop-again Inv-loop μ-loop
 loop-again c = becoming-next 65 (c .before .loop .i) _ _ (c .before .loop .held) _ (c .before .loop .inv) (c .loop-test .taken) refl
 
--- src/lib.rt:280:1
 returns : tie.Need-returns Inv-loop μ-loop
 returns c =
     let long : length (c .before .before .args .t1) ≡ 65 = search needs in

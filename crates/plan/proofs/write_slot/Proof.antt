@@ -27,15 +27,12 @@ Inv-loop rest₀ p table held owners blocked free₀ n₀ k₀ rest free n k =
 abbrev μ-loop : tie.MeasureT-loop
 μ-loop rest₀ p table held owners blocked free₀ n₀ k₀ rest free n k = p - k
 
--- src/lib.rt:166:20
 free-to-send-requires : tie.Need-free-to-send-requires Inv-loop μ-loop
 free-to-send-requires c κs = search needs
 
--- src/lib.rt:167:5
 slice-write-rest : tie.Need-slice-write-rest Inv-loop μ-loop
 slice-write-rest c = search needs
 
--- src/lib.rt:170:5
 loop-holds : tie.Need-loop-holds Inv-loop μ-loop
 loop-holds c =
     let start = c .before .before in
@@ -44,25 +41,20 @@ loop-holds c =
       free-start (entry (a .table .now)) (holds (a .held .now)) (a .owners .now) (start .pre .1 .0) (a .blocked .now) _ (start .pre .1 .1 .0) (c .free-to-send .ensures),
     )
 
--- src/lib.rt:171:17
 add-v : tie.Need-add-v Inv-loop μ-loop
 add-v c = search needs
 
--- src/lib.rt:172:17
 cast-i : tie.Need-cast-i Inv-loop μ-loop
 cast-i c = search needs
 
--- src/lib.rt:173:12
 array-read-if1 : tie.Need-array-read-if1 Inv-loop μ-loop
 array-read-if1 c = search needs
 
--- src/lib.rt:174:13
 add-n : tie.Need-add-n Inv-loop μ-loop
 add-n c =
     let l = c .before .before .loop in
     omega (arith, fewer _ _ _ _ (l .n) (l .k) (l .inv .0))
 
--- src/lib.rt:175:13
 slice-write-rest-2 : tie.Need-slice-write-rest-2 Inv-loop μ-loop
 slice-write-rest-2 c =
     let start = c .before .before .before .before .before in
@@ -76,27 +68,21 @@ slice-write-rest-2 c =
       one-more _ _ _ _ (l .n) (l .k) (l .inv .0) h (free-says (entry (a .table .now)) (holds (a .held .now)) (a .owners .now) (start .pre .1 .0) (l .k) small (l .free) (l .inv .1) (a .p) h ∙ c .if1 .taken),
     )
 
--- src/lib.rt:176:18
 mul-shut : tie.Need-mul-shut Inv-loop μ-loop
 mul-shut c = search needs
 
--- src/lib.rt:176:18
 index-1-shut : tie.Need-index-1-shut Inv-loop μ-loop
 index-1-shut c = search needs
 
--- src/lib.rt:176:13
 shut-requires : tie.Need-shut-requires Inv-loop μ-loop
 shut-requires c κs = ap length (c .before .before .before .before .loop .inv .1) ∙ length-tab 65 _
 
--- src/lib.rt:178:9
 add-k : tie.Need-add-k Inv-loop μ-loop
 add-k c = search needs
 
--- src/lib.rt:170:5
 loop-less : tie.Need-loop-less Inv-loop μ-loop
 loop-less c = search needs
 
--- src/lib.rt:170:5
 loop-again : tie.Need-loop-again Inv-loop μ-loop
 loop-again c =
     let start = c .before .before .before .before .before in
@@ -119,31 +105,26 @@ loop-again c =
     ))
     (c .if1 .came)
 
--- src/lib.rt:180:15
 cast-rest : tie.Need-cast-rest Inv-loop μ-loop
 cast-rest c =
     let l = c .before .loop in
     omega (arith, fewer _ _ _ _ (l .n) (l .k) (l .inv .0))
 
--- src/lib.rt:180:5
 slice-write-rest-3 : tie.Need-slice-write-rest-3 Inv-loop μ-loop
 slice-write-rest-3 c =
     let l = c .before .loop in
     omega (arith, long _ _ _ (l .rest) _ _ (l .inv .0), l .inv .0 .room)
 
--- src/lib.rt:181:5
 add-result : tie.Need-add-result Inv-loop μ-loop
 add-result c =
     let l = c .before .loop in
     omega (arith, fewer _ _ _ _ (l .n) (l .k) (l .inv .0))
 
--- src/lib.rt:152:1
 same-length : tie.Need-same-length Inv-loop μ-loop
 same-length c =
     let l = c .before .loop in
     simp length-set (long _ _ _ (l .rest) _ _ (l .inv .0) ∙ simp length-set)
 
--- src/lib.rt:152:1
 returns : tie.Need-returns Inv-loop μ-loop
 returns c =
     let start = c .before .before .before .before in
