@@ -6,7 +6,7 @@
 // What the caller must provide, each time:
 // - a pointer that is valid for the length given with it, and not null even where the length is 0;
 // - a buffer to be written that overlaps none of the other arguments;
-// - 32 KB of stack, and 96 KB for yard_list.
+// - 48 KB of stack, and 112 KB for yard_list.
 #ifndef YARD_H
 #define YARD_H
 
