@@ -10,13 +10,6 @@ ghost use Rattle.meaning.specs.Colour.{levelsConflict};
 ghost use Rattle.conflict.specs.Marks.{rowsOf, marked, levelsMarked};
 ghost use Rattle.conflict.specs.Heard.{probeAt, ofProbe, heardIn, heardRow, eitherWay};
 
-// The byte at a place of the records, 0 where they are shorter.
-fn byte_at(records: &[u8], at: usize) -> u8
-    ensures { λ r. ⌜ r ≡ getD (now (records .entry)) at 0 ⌝ }
-{
-    if at < records.len() { records[at] } else { 0 }
-}
-
 // The number of a node in a list by node, 0 outside the list.
 fn number_of(list: &[u8; 65], v: usize) -> u8
     requires { ⌜ length (now list) ≡ places ⌝ }
@@ -44,8 +37,8 @@ fn pair_table(records: &[u8], q: u16) -> [[bool; 65]; 256]
     let n = q as usize;
     let mut k: usize = 0;
     while k < n {
-        let a = byte_at(records, 2 * k);
-        let b = byte_at(records, 2 * k + 1);
+        let a = meaning::number_at(records, 2 * k);
+        let b = meaning::number_at(records, 2 * k + 1);
         pair(&mut t, a, b);
         pair(&mut t, b, a);
         k += 1;

@@ -18,11 +18,11 @@ use Rattle.meaning.specs.Judge.{Judging, slotsJudged, planJudgedBy, planJudged,
 use Rattle.meaning.proofs.Turns.{length-tab, getD-places}
 use Rattle.meaning.proofs.Walk.{probe-past}
 use Rattle.meaning.proofs.Accepted.{accepted-yard, then-stays, then-goes, parent-outside}
+use Rattle.meaning.proofs.Grounds.{few-probes, few-packets, parent-node}
 use Rattle.sheet.specs.declared.Yard.{Yard}
 use Rattle.sheet.specs.Yard.{refusedYard, yardOf}
 use Rattle.judge.specs.Turn.{judgingFrom, Ready, refusedVerdict}
 use Rattle.judge.proofs.Going.{come}
-use Rattle.judge.proofs.Conserved.{total-at-start, few-packets, parents-of}
 
 -- the stages behind the slots: `o`, `at` and `held` are what the slots came to
 module _ (p : ℕ) (parent : ℕ → ℕ) (relation : ℕ → ℕ → Bool) (packets plan : List ℕ) (many : ℕ) (manyIs : many ≡ twoAt plan 0)
@@ -111,15 +111,14 @@ module _ (s : List ℕ) (y : Yard) (is : y ≡ yardOf s) where
     -- what the slots count on
     pub ready-read : Ready (y .probes) (λ u. getD (y .parents) u 0) (y .packets)
     ready-read =
-        let accepted = accepted-yard s sheet-accepted in
         subst (λ (l : List ℕ). Ready (y .probes) (λ u. getD (y .parents) u 0) l) (sym packets-read)
         (subst (λ (parent : ℕ → ℕ). Ready (y .probes) parent (tab places (packetsOf s))) (sym parents-read)
         (subst (λ (p : ℕ). Ready p (parentOf s) (tab places (packetsOf s))) (sym probes-read)
         (record {
-          few = accepted .few;
-          parents = parents-of s accepted;
+          few = few-probes s sheet-accepted;
+          parents = parent-node s sheet-accepted;
           long = length-tab places (packetsOf s);
-          packets = omega (arith, total-at-start s (accepted .few), few-packets s accepted);
+          packets = few-packets s sheet-accepted;
         })))
 
     -- the table of conflicts

@@ -2,7 +2,6 @@
 pub mod Places
 pub mod Looking
 pub mod Tests
-pub mod Sending
 pub mod Turning
 pub mod Conserved
 pub mod Going

@@ -16,6 +16,7 @@ use Rattle.meaning.specs.Answer.{accepted, isAccepted, _then_}
 use Rattle.meaning.specs.Judge.{slotTest}
 use Rattle.meaning.proofs.Turns.{some-none}
 use Rattle.meaning.proofs.Walk.{probe-least, probe-most}
+use Rattle.meaning.proofs.Running.{at-each}
 use Rattle.meaning.proofs.Moving.{Rising, Each, Sender}
 use Rattle.meaning.proofs.Accepted.{then-accepted, given-accepted}
 use Rattle.judge.specs.Turn.{Nodes, Ready}
@@ -92,20 +93,14 @@ nodes p slot few e i hi =
     let last = probe-most p (getD slot i 0) (not-false _ (some-none (length slot) (λ j. not (isProbe p (getD slot j 0))) e i hi)) in
     omega arith
 
--- each of a list, told by places
-pub each-at : (P : ℕ → Type 0) (slot : List ℕ) → ((i : ℕ) → i < length slot → P (getD slot i 0)) → Each P slot
-unfolding Each
-each-at P [] all = tt
-each-at P (v ∷ slot) all = (all 0 (omega arith), each-at P slot (λ i hi. all (suc i) (omega arith)))
-
 -- strictly rising, told by places
-pub rising-at : (lo : ℕ) (slot : List ℕ) → (0 < length slot → lo < getD slot 0 0) → ((i : ℕ) → i + 1 < length slot → getD slot i 0 < getD slot (i + 1) 0)
+pub rising-next : (lo : ℕ) (slot : List ℕ) → (0 < length slot → lo < getD slot 0 0) → ((i : ℕ) → i + 1 < length slot → getD slot i 0 < getD slot (i + 1) 0)
     → Rising lo slot
 unfolding Rising
-rising-at lo [] first rest = tt
-rising-at lo (v ∷ slot) first rest = (
+rising-next lo [] first rest = tt
+rising-next lo (v ∷ slot) first rest = (
   first (omega arith),
-  rising-at v slot (λ h. rest 0 (omega arith))
+  rising-next v slot (λ h. rest 0 (omega arith))
       (λ i hi. subst (λ (n : ℕ). getD slot i 0 < getD (v ∷ slot) n 0) (next i) (rest (suc i) (omega arith))),
 )
   where
@@ -122,10 +117,10 @@ module _ (p : ℕ) (parent : ℕ → ℕ) (relation : ℕ → ℕ → Bool) (hel
       (ok .holding i hi, omega arith, parents (getD slot i 0) probe)
 
   pub rising : Rising 1 slot
-  rising = rising-at 1 slot (λ h. let least = probe-least p (getD slot 0 0) (ok .probes 0 h) in omega arith) (ok .rises)
+  rising = rising-next 1 slot (λ h. let least = probe-least p (getD slot 0 0) (ok .probes 0 h) in omega arith) (ok .rises)
 
   pub sending : Each (Sender parent held) slot
-  sending = each-at (Sender parent held) slot sender-at
+  sending = at-each (Sender parent held) slot sender-at
 
 -- the senders of a slot whose tests gave no number rise, and each may send
 pub may-send : (p : ℕ) (parent : ℕ → ℕ) (relation : ℕ → ℕ → Bool) (held : List ℕ) (place : ℕ) (slot : List ℕ) → Ready p parent held

@@ -52,18 +52,11 @@ pub fn slot_at(plan: &[u8], at: usize) -> SlotAt
     }
 }
 
-// The byte of a plan at a place; 0 past its end.
-fn byte(plan: &[u8], at: usize) -> u8
-    ensures { λ r. ⌜ r ≡ getD (now (plan .entry)) at 0 ⌝ }
-{
-    if at < plan.len() { plan[at] } else { 0 }
-}
-
 // How many slots a plan says it has.
 fn slot_count(plan: &[u8]) -> u16
     ensures { λ r. ⌜ r ≡ twoAt (now (plan .entry)) 0 ⌝ }
 {
-    256 * (byte(plan, 0) as u16) + byte(plan, 1) as u16
+    256 * (meaning::number_at(plan, 0) as u16) + meaning::number_at(plan, 1) as u16
 }
 
 // The number of a refusal at its place.

@@ -22,7 +22,7 @@ use Rattle.meaning.proofs.Walk.{not-both, probe-yes}
 use Rattle.meaning.proofs.Moving.{Rising, Each, weigh, weighAll, weigh-moved, kept, length-moved}
 use Rattle.meaning.proofs.Slots.{true-or-false}
 use Rattle.meaning.proofs.Accepted.{then-accepted, given-accepted, packets-outside}
-use Rattle.meaning.proofs.Grounds.{sum-probes}
+use Rattle.meaning.proofs.Grounds.{packets-first}
 use Rattle.limits.proofs.Sums.{forEach-counts, sum-zero, probe-at}
 use Rattle.limits.proofs.Passed.{Apart, Passed, passed}
 use Rattle.limits.proofs.Yard as Yard
@@ -151,14 +151,7 @@ module _ (p : ℕ) (parent : ℕ → ℕ) (relation : ℕ → ℕ → Bool) (few
       go k true e = omega (arith, empty k e)
       go k false e = refl
 
--- before the first slot all packets are at the probes
-packets-first : (s : List ℕ) → probeCount s ≤ 63 → weigh (λ _. 1) (tab places (packetsOf s)) ≡ allPackets s
-unfolding allPackets
-packets-first s few =
-    sum-same places (λ k. getD (tab places (packetsOf s)) k 0 * 1) (packetsOf s)
-    (λ k hk. omega (arith, getD-tab places (packetsOf s) k 0 hk))
-    ∙ sum-probes (probeCount s) (packetsOf s) few (packets-outside s)
-
+-- before the first slot none is at the gateway
 home-first : (s : List ℕ) → weigh (home (probeCount s)) (tab places (packetsOf s)) ≡ 0
 home-first s =
     sum-zero places (λ k. getD (tab places (packetsOf s)) k 0 * home (probeCount s) k)

@@ -10,7 +10,7 @@ use native.Mathlib.Omega.{arith}
 use lib.ListN.{getD}
 use Rattle.meaning.specs.Words.{sum, sumProbes, tab, places}
 use Rattle.meaning.specs.Yard.{isProbe, climb}
-use Rattle.meaning.specs.Sheet.{probeCount, parentOf, packetsOf, levelOf, hops}
+use Rattle.meaning.specs.Sheet.{probeCount, parentOf, packetsOf, allPackets, levelOf, hops}
 use Rattle.meaning.specs.Answer.{isAccepted, sheetTest}
 use Rattle.meaning.specs.Legal.{heldFirst}
 use Rattle.meaning.proofs.Turns.{below-or-last, same-or-other, sum-same, sum-least, sum-constant, getD-tab, getD-places}
@@ -41,6 +41,13 @@ sum-probes p f small none =
     sum-behind (suc (suc p)) places f (omega arith) (λ k h. none k (probe-past p k (omega arith)))
     ∙ sum-two p f
     ∙ omega (arith, none 0 (probe-below p 0 (omega arith)), none 1 (probe-below p 1 (omega arith)))
+
+-- before the first slot all packets are at the probes
+pub packets-first : (s : List ℕ) → probeCount s ≤ 63 → weigh (λ _. 1) (heldFirst s) ≡ allPackets s
+unfolding allPackets
+packets-first s few =
+    sum-same places (λ k. getD (heldFirst s) k 0 * 1) (packetsOf s) (λ k hk. omega (arith, getD-tab places (packetsOf s) k 0 hk))
+    ∙ sum-probes (probeCount s) (packetsOf s) few (packets-outside s)
 
 module _ (s : List ℕ) (ok : isAccepted (sheetTest s) ≡ true) where
   pub few-probes : probeCount s ≤ 63

@@ -8,6 +8,7 @@ pub mod Conflicting
 pub mod Accepted
 pub mod Grounds
 pub mod Running
+pub mod Sending
 pub mod Exact
 pub mod Joining
 pub mod Levels

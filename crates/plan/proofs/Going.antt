@@ -14,17 +14,11 @@ use Rattle.meaning.specs.Words.{forEach}
 use Rattle.meaning.specs.Plan.{front, slotBytes}
 use Rattle.meaning.specs.Rounds.{Progress, Way, holds, moved, recorded, round, rounds, slotFor, outside}
 use Rattle.meaning.proofs.Turns.{forEach-one, forEach-stays}
+use Rattle.meaning.proofs.Exact.{slot-bytes-append}
 use Rattle.plan.specs.Turn.{Ready, Turned, turnSlot, made}
 use Rattle.plan.specs.Going.{wayBy, from, Going}
 use Rattle.plan.proofs.Writing.{length-front}
 use Rattle.plan.proofs.Turning.{made-one, ready-next, turn-bytes}
-
--- slots behind slots
-pub slot-bytes-append : (xs ys : List (List ℕ)) → slotBytes (xs ++ ys) ≡ slotBytes xs ++ slotBytes ys
-unfolding slotBytes
-slot-bytes-append [] ys = refl
-slot-bytes-append (x ∷ xs) ys =
-    ap (λ (l : List ℕ). (length x ∷ x) ++ l) (slot-bytes-append xs ys) ∙ sym (append-assoc (length x ∷ x) (slotBytes xs) (slotBytes ys))
 
 -- a slot recorded, empty or not
 pub recorded-made : (parent : ℕ → ℕ) (slot : List ℕ) (now : Progress)

@@ -3,7 +3,6 @@ pub mod Lists
 pub mod Choosing
 pub mod Free
 pub mod Writing
-pub mod Sending
 pub mod Turning
 pub mod Going
 pub mod Filling

@@ -22,7 +22,7 @@ use Rattle.plan.specs.Turn.{blockedBy, anyTaken, Joining, nobody, Chosen
 use Rattle.meaning.specs.Yard.{levelBy}
 use Rattle.plan.proofs.Choosing.{flags-say, joining-long}
 use Rattle.plan.proofs.Writing.{probes-put, probes-grow, length-front}
-use Rattle.plan.proofs.Sending.{at-each}
+use Rattle.meaning.proofs.Running.{each-at}
 
 -- nobody blocks nobody
 pub unblocked : (relation : ℕ → ℕ → Bool) → nobody ≡ blockedBy relation nobody
@@ -301,7 +301,7 @@ module _ (p : ℕ) (parent : ℕ → ℕ) (held : List ℕ) (rest : List ℕ) (r
       may-move =
           subst (λ (l : List ℕ). Rising 1 l × ((i : ℕ) → i < length l → Sender parent held (getD l i 0))) (sym slot-lent) (
             rising-probes p (λ v. getD final v false),
-            at-each (Sender parent held) (senders p final) (each-probe (Sender parent held) p (λ v. getD final v false) can-all),
+            each-at (Sender parent held) (senders p final) (each-probe (Sender parent held) p (λ v. getD final v false) can-all),
           )
 
       pub turned-slot : (held′ : List ℕ) → held′ ≡ moved parent lent held → Turned parent (turnSlot p relation own s held) held held′ rest rest′ bytes

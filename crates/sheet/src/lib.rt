@@ -20,13 +20,6 @@ pub struct Yard {
     pub packets: [u8; 65],
 }
 
-// The byte of a sheet at a place; 0 past its end.
-fn byte(s: &[u8], at: usize) -> u8
-    ensures { λ r. ⌜ r ≡ getD (now (s .entry)) at 0 ⌝ }
-{
-    if at < s.len() { s[at] } else { 0 }
-}
-
 // The rest of a sheet from a place on; nothing past its end.
 fn rest(s: &[u8], at: usize) -> &[u8]
     ensures { λ r. ⌜ now r ≡ drop at (now (s .entry)) ⌝ }
@@ -39,7 +32,7 @@ fn rest(s: &[u8], at: usize) -> &[u8]
 fn pair_count_at(sheet: &[u8]) -> usize
     ensures { λ r. ⌜ r ≡ pairCountAt (now (sheet .entry)) ⌝ }
 {
-    2 * (byte(sheet, 0) as usize) + 1
+    2 * (meaning::number_at(sheet, 0) as usize) + 1
 }
 
 // q, the number of interfering pairs.
@@ -47,7 +40,7 @@ pub fn pair_count(sheet: &[u8]) -> u16
     ensures { λ r. ⌜ r ≡ pairCount (now (sheet .entry)) ⌝ }
 {
     let at = pair_count_at(sheet);
-    256 * (byte(sheet, at) as u16) + byte(sheet, at + 1) as u16
+    256 * (meaning::number_at(sheet, at) as u16) + meaning::number_at(sheet, at + 1) as u16
 }
 
 // The probes' records: the rest of the sheet behind p.
@@ -73,7 +66,7 @@ fn counts_number(sheet: &[u8]) -> u8
     if length == 0 {
         return 1;
     }
-    let p = byte(sheet, 0) as usize;
+    let p = meaning::number_at(sheet, 0) as usize;
     if 63 < p {
         return 2;
     }
@@ -125,13 +118,13 @@ fn probe_test(records: &[u8], p: u8, k: u8) -> Outcome
 {
     let probe = k as u16 + 2;
     let at = 2 * (k as usize);
-    if parent_wrong(byte(records, at) as u16, p as u16 + 1, probe) {
+    if parent_wrong(meaning::number_at(records, at) as u16, p as u16 + 1, probe) {
         return Outcome {
             number: 4,
             place: probe,
         };
     }
-    if packets_wrong(byte(records, at + 1)) {
+    if packets_wrong(meaning::number_at(records, at + 1)) {
         return Outcome {
             number: 5,
             place: probe,
@@ -172,7 +165,7 @@ fn record_byte(records: &[u8], p: u8, side: usize, v: usize) -> u8
     if n < v {
         return 0;
     }
-    byte(records, 2 * (v - 2) + side)
+    meaning::number_at(records, 2 * (v - 2) + side)
 }
 
 // One byte of each record, by node.
@@ -257,8 +250,8 @@ fn pair_test(records: &[u8], p: u8, k: u16) -> Outcome
     ensures { λ r. ⌜ r ≡ pairTest (now (records .entry)) p k ⌝ }
 {
     let at = 2 * (k as usize);
-    let a = byte(records, at) as u16;
-    let b = byte(records, at + 1) as u16;
+    let a = meaning::number_at(records, at) as u16;
+    let b = meaning::number_at(records, at + 1) as u16;
     if pair_wrong(a, b, p as u16 + 1) {
         return Outcome {
             number: 7,
@@ -273,8 +266,8 @@ fn pair_test(records: &[u8], p: u8, k: u16) -> Outcome
     }
     let before = 2 * (k as usize - 1);
     if rises(
-        byte(records, before) as u16,
-        byte(records, before + 1) as u16,
+        meaning::number_at(records, before) as u16,
+        meaning::number_at(records, before + 1) as u16,
         a,
         b,
     ) {
@@ -314,7 +307,7 @@ fn sheet_test(sheet: &[u8]) -> Outcome
     if counts.number != 0 {
         return counts;
     }
-    let p = byte(sheet, 0);
+    let p = meaning::number_at(sheet, 0);
     let records = probe_records(sheet);
     let probes = probes_test(records, p);
     if probes.number != 0 {
@@ -348,7 +341,7 @@ pub fn read(sheet: &[u8]) -> Yard
     if outcome.number != 0 {
         return refused(outcome);
     }
-    let probes = byte(sheet, 0);
+    let probes = meaning::number_at(sheet, 0);
     let records = probe_records(sheet);
     let parents = parents(records, probes);
     let packets = packets(records, probes);

@@ -15,13 +15,6 @@ pub enum Walk {
     Never,
 }
 
-// What a table by node says of a node, 0 outside.
-fn at_node(table: &[u8], v: usize) -> u8
-    ensures { λ r. ⌜ r ≡ getD (now (table .entry)) v 0 ⌝ }
-{
-    if v < table.len() { table[v] } else { 0 }
-}
-
 // The level of a probe whose walk has `left` hops to take.
 pub fn climb(parents: &[u8; 65], v: Probe, left: u8) -> Walk
     ensures { λ r. ⌜ r ≡ climbed (λ u. getD (now (parents .entry)) u 0) left (v .0) ⌝ }
@@ -33,7 +26,7 @@ pub fn climb(parents: &[u8; 65], v: Probe, left: u8) -> Walk
     if left == 0 {
         return Walk::Never;
     }
-    let parent = at_node(parents, node as usize);
+    let parent = meaning::number_at(parents, node as usize);
     match climb(parents, Probe(parent), left - 1) {
         Walk::Arrives(level) => Walk::Arrives(Level(level.0 + 1)),
         Walk::Never => Walk::Never,
@@ -74,7 +67,7 @@ fn hops_at(packets: &[u8; 65], levels: &[u8; 65], v: usize) -> u32
     ensures { λ r. ⌜ r ≡ getD (now (packets .entry)) v 0 * getD (now (levels .entry)) v 0 ⌝ }
     ensures { λ r. ⌜ r ≤ 65025 ⌝ }
 {
-    at_node(packets, v) as u32 * at_node(levels, v) as u32
+    meaning::number_at(packets, v) as u32 * meaning::number_at(levels, v) as u32
 }
 
 // The sum over all probes of packets times level.
@@ -97,7 +90,7 @@ pub fn depth(p: u8, levels: &[u8; 65]) -> Level
     let mut deepest: u8 = 0;
     let mut k: u8 = 0;
     while k < p {
-        let level = at_node(levels, k as usize + 2);
+        let level = meaning::number_at(levels, k as usize + 2);
         if deepest < level {
             deepest = level;
         }

@@ -5,7 +5,7 @@ use Prim.Native.Nat.{ℕ, _-_, _≤_}
 use lib.ListN.{length, getD, take}
 use Rattle.meaning.specs.Rounds.{hop, moved}
 use Rattle.meaning.proofs.Moving.{weigh, Sender}
-use Rattle.plan.proofs.Sending.{none-sent, now-long, now-kept, still-sender, send-one, all-sent}
+use Rattle.meaning.proofs.Sending.{none-sent, now-long, now-kept, still-sender, send-one, all-sent}
 use native.Mathlib.Omega.{arith}
 use borrow.Author.Needs.{needs}
 use Rattle.plan.proofs.move_packets.Statement.{statement}

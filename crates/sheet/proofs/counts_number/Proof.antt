@@ -14,14 +14,14 @@ use Rattle.sheet.proofs.counts_number.Tie as tie
 returns : tie.Need-returns
 returns c = empty-sheet _ (c .if1 .taken)
 
-byte-requires : tie.Need-byte-requires
-byte-requires c κs = search needs
+number-at-requires : tie.Need-number-at-requires
+number-at-requires c κs = search needs
 
 cast-p : tie.Need-cast-p
 cast-p c = search needs
 
 returns-2 : tie.Need-returns-2
-returns-2 c = many-probes _ (c .before .before .if1 .left) (omega (arith, c .before .byte .ensures))
+returns-2 c = many-probes _ (c .before .before .if1 .left) (omega (arith, c .before .number-at .ensures))
 
 pair-count-at-requires : tie.Need-pair-count-at-requires
 pair-count-at-requires c κs = search needs
@@ -29,8 +29,8 @@ pair-count-at-requires c κs = search needs
 add-if3 : tie.Need-add-if3
 add-if3 c = search needs
 
-few : (c : tie.After-byte) → c .byte .result ≤ 63 → probeCount (c .before .before .before .args .sheet .now) ≤ 63
-few c h = omega (arith, c .byte .ensures)
+few : (c : tie.After-number-at) → c .number-at .result ≤ 63 → probeCount (c .before .before .before .args .sheet .now) ≤ 63
+few c h = omega (arith, c .number-at .ensures)
 
 returns-3 : tie.Need-returns-3
 returns-3 c =
@@ -46,14 +46,14 @@ add-if4 : tie.Need-add-if4
 add-if4 c = search needs
 
 mul-if4 : tie.Need-mul-if4
-mul-if4 c = omega (arith, pairs-of-few (c .before .before .before .before .byte .result) (omega arith))
+mul-if4 c = omega (arith, pairs-of-few (c .before .before .before .before .number-at .result) (omega arith))
 
 counted : (c : tie.Else3) → pairCountAt (c .before .before .before .before .before .before .args .sheet .now) + 2 ≤ length (c .before .before .before .before .before .before .args .sheet .now)
 counted c = omega (arith, c .before .pair-count-at .ensures)
 
 -- as many pairs as there can be, of the number read and of the sheet's
-most-pairs : (c : tie.After-byte) → c .byte .result * (c .byte .result + 1) / 2 ≡ probeCount (c .before .before .before .args .sheet .now) * (probeCount (c .before .before .before .args .sheet .now) + 1) / 2
-most-pairs c = ap (λ (p : ℕ). p * (p + 1) / 2) (c .byte .ensures)
+most-pairs : (c : tie.After-number-at) → c .number-at .result * (c .number-at .result + 1) / 2 ≡ probeCount (c .before .before .before .args .sheet .now) * (probeCount (c .before .before .before .args .sheet .now) + 1) / 2
+most-pairs c = ap (λ (p : ℕ). p * (p + 1) / 2) (c .number-at .ensures)
 
 returns-4 : tie.Need-returns-4
 returns-4 c =
@@ -92,7 +92,7 @@ counts-number-spec =
     tie.close
     (tie.spec
     returns
-    byte-requires
+    number-at-requires
     cast-p
     returns-2
     pair-count-at-requires

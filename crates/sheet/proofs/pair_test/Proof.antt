@@ -8,17 +8,17 @@ use Rattle.sheet.proofs.pair_test.Tie as tie
 mul-at : tie.Need-mul-at
 mul-at c = search needs
 
-byte-requires : tie.Need-byte-requires
-byte-requires c κs = search needs
+number-at-requires : tie.Need-number-at-requires
+number-at-requires c κs = search needs
 
 cast-a : tie.Need-cast-a
 cast-a c = search needs
 
-add-byte : tie.Need-add-byte
-add-byte c = search needs
+add-number-at : tie.Need-add-number-at
+add-number-at c = search needs
 
-byte-requires-2 : tie.Need-byte-requires-2
-byte-requires-2 c κs = search needs
+number-at-requires-2 : tie.Need-number-at-requires-2
+number-at-requires-2 c κs = search needs
 
 cast-b : tie.Need-cast-b
 cast-b c = search needs
@@ -34,11 +34,11 @@ add-t13 c = search needs
 
 returns : tie.Need-returns
 returns c =
-    pair-refused _ _ _ _ _ _ (c .before .before .before .byte .ensures) (c .before .before .byte2 .ensures) (c .before .pair-wrong .ensures) (c .if1 .taken)
+    pair-refused _ _ _ _ _ _ (c .before .before .before .number-at .ensures) (c .before .before .number-at2 .ensures) (c .before .pair-wrong .ensures) (c .if1 .taken)
 
 returns-2 : tie.Need-returns-2
 returns-2 c =
-    first-passed _ _ _ _ _ _ (c .before .before .before .before .byte .ensures) (c .before .before .before .byte2 .ensures) (c .before .before .pair-wrong .ensures) (c .before .if1 .left)
+    first-passed _ _ _ _ _ _ (c .before .before .before .before .number-at .ensures) (c .before .before .before .number-at2 .ensures) (c .before .before .pair-wrong .ensures) (c .before .if1 .left)
     (c .if2 .taken)
 
 sub-before : tie.Need-sub-before
@@ -47,17 +47,17 @@ sub-before c = search needs
 mul-before : tie.Need-mul-before
 mul-before c = search needs
 
-byte-requires-3 : tie.Need-byte-requires-3
-byte-requires-3 c κs = search needs
+number-at-requires-3 : tie.Need-number-at-requires-3
+number-at-requires-3 c κs = search needs
 
 cast-rises : tie.Need-cast-rises
 cast-rises c = search needs
 
-add-byte-2 : tie.Need-add-byte-2
-add-byte-2 c = search needs
+add-number-at-2 : tie.Need-add-number-at-2
+add-number-at-2 c = search needs
 
-byte-requires-4 : tie.Need-byte-requires-4
-byte-requires-4 c κs = search needs
+number-at-requires-4 : tie.Need-number-at-requires-4
+number-at-requires-4 c κs = search needs
 
 cast-rises-2 : tie.Need-cast-rises-2
 cast-rises-2 c = search needs
@@ -68,9 +68,9 @@ rises-requires c κs = search needs
 returns-3 : tie.Need-returns-3
 returns-3 c =
     let later = c .before .before .before .before in
-    pair-passed _ _ _ _ _ _ (later .before .before .before .before .byte .ensures) (later .before .before .before .byte2 .ensures)
-    (later .before .before .pair-wrong .ensures) (later .before .if1 .left) (later .if2 .left) _ _ _ (c .before .before .before .byte3 .ensures)
-    (c .before .before .byte4 .ensures) (c .before .rises .ensures) (c .if3 .taken)
+    pair-passed _ _ _ _ _ _ (later .before .before .before .before .number-at .ensures) (later .before .before .before .number-at2 .ensures)
+    (later .before .before .pair-wrong .ensures) (later .before .if1 .left) (later .if2 .left) _ _ _ (c .before .before .before .number-at3 .ensures)
+    (c .before .before .number-at4 .ensures) (c .before .rises .ensures) (c .if3 .taken)
 
 add-t11 : tie.Need-add-t11
 add-t11 c = search needs
@@ -78,19 +78,19 @@ add-t11 c = search needs
 returns-4 : tie.Need-returns-4
 returns-4 c =
     let later = c .before .before .before .before in
-    order-refused _ _ _ _ _ _ (later .before .before .before .before .byte .ensures) (later .before .before .before .byte2 .ensures)
-    (later .before .before .pair-wrong .ensures) (later .before .if1 .left) (later .if2 .left) _ _ _ (c .before .before .before .byte3 .ensures)
-    (c .before .before .byte4 .ensures) (c .before .rises .ensures) (c .if3 .left)
+    order-refused _ _ _ _ _ _ (later .before .before .before .before .number-at .ensures) (later .before .before .before .number-at2 .ensures)
+    (later .before .before .pair-wrong .ensures) (later .before .if1 .left) (later .if2 .left) _ _ _ (c .before .before .before .number-at3 .ensures)
+    (c .before .before .number-at4 .ensures) (c .before .rises .ensures) (c .if3 .left)
 
 pub pair-test-spec : {M : Type 1} → statement M
 pair-test-spec =
     tie.close
     (tie.spec
     mul-at
-    byte-requires
+    number-at-requires
     cast-a
-    add-byte
-    byte-requires-2
+    add-number-at
+    number-at-requires-2
     cast-b
     add-pair-wrong
     pair-wrong-requires
@@ -99,10 +99,10 @@ pair-test-spec =
     returns-2
     sub-before
     mul-before
-    byte-requires-3
+    number-at-requires-3
     cast-rises
-    add-byte-2
-    byte-requires-4
+    add-number-at-2
+    number-at-requires-4
     cast-rises-2
     rises-requires
     returns-3

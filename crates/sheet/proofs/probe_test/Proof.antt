@@ -11,8 +11,8 @@ add-probe c = search needs
 mul-at : tie.Need-mul-at
 mul-at c = search needs
 
-byte-requires : tie.Need-byte-requires
-byte-requires c κs = search needs
+number-at-requires : tie.Need-number-at-requires
+number-at-requires c κs = search needs
 
 cast-parent-wrong : tie.Need-cast-parent-wrong
 cast-parent-wrong c = search needs
@@ -24,25 +24,25 @@ parent-wrong-requires : tie.Need-parent-wrong-requires
 parent-wrong-requires c κs = search needs
 
 returns : tie.Need-returns
-returns c = parent-refused _ _ _ _ _ (c .before .before .byte .ensures) (c .before .parent-wrong .ensures) (c .if1 .taken)
+returns c = parent-refused _ _ _ _ _ (c .before .before .number-at .ensures) (c .before .parent-wrong .ensures) (c .if1 .taken)
 
-add-byte : tie.Need-add-byte
-add-byte c = search needs
+add-number-at : tie.Need-add-number-at
+add-number-at c = search needs
 
-byte-requires-2 : tie.Need-byte-requires-2
-byte-requires-2 c κs = search needs
+number-at-requires-2 : tie.Need-number-at-requires-2
+number-at-requires-2 c κs = search needs
 
 packets-wrong-requires : tie.Need-packets-wrong-requires
 packets-wrong-requires c κs = search needs
 
 returns-2 : tie.Need-returns-2
 returns-2 c =
-    packets-refused _ _ _ _ _ (c .before .before .before .before .before .byte .ensures) (c .before .before .before .before .parent-wrong .ensures) (c .before .before .before .if1 .left) _ _ (c .before .before .byte2 .ensures)
+    packets-refused _ _ _ _ _ (c .before .before .before .before .before .number-at .ensures) (c .before .before .before .before .parent-wrong .ensures) (c .before .before .before .if1 .left) _ _ (c .before .before .number-at2 .ensures)
     (c .before .packets-wrong .ensures) (c .if2 .taken)
 
 returns-3 : tie.Need-returns-3
 returns-3 c =
-    probe-passed _ _ _ _ _ (c .before .before .before .before .before .byte .ensures) (c .before .before .before .before .parent-wrong .ensures) (c .before .before .before .if1 .left) _ _ (c .before .before .byte2 .ensures)
+    probe-passed _ _ _ _ _ (c .before .before .before .before .before .number-at .ensures) (c .before .before .before .before .parent-wrong .ensures) (c .before .before .before .if1 .left) _ _ (c .before .before .number-at2 .ensures)
     (c .before .packets-wrong .ensures) (c .if2 .left)
 
 pub probe-test-spec : {M : Type 1} → statement M
@@ -51,13 +51,13 @@ probe-test-spec =
     (tie.spec
     add-probe
     mul-at
-    byte-requires
+    number-at-requires
     cast-parent-wrong
     add-parent-wrong
     parent-wrong-requires
     returns
-    add-byte
-    byte-requires-2
+    add-number-at
+    number-at-requires-2
     packets-wrong-requires
     returns-2
     returns-3)

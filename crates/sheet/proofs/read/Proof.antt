@@ -14,8 +14,8 @@ refused-requires c κs = search needs
 returns : tie.Need-returns
 returns c = c .refused .ensures ∙ read-refused _ _ (c .before .before .before .sheet-test .ensures) (c .before .if1 .taken)
 
-byte-requires : tie.Need-byte-requires
-byte-requires c κs = search needs
+number-at-requires : tie.Need-number-at-requires
+number-at-requires c κs = search needs
 
 probe-records-requires : tie.Need-probe-records-requires
 probe-records-requires c κs = search needs
@@ -28,7 +28,7 @@ packets-requires c κs = search needs
 
 returns-2 : tie.Need-returns-2
 returns-2 c =
-    let p = c .before .before .before .byte .ensures in
+    let p = c .before .before .before .number-at .ensures in
     let records = c .before .before .probe-records .ensures in
     read-accepted _ _ _ _ _ (c .before .before .before .before .before .before .sheet-test .ensures) (c .before .before .before .before .if1 .left) p (c .before .parents .ensures ∙ parents-read (c .before .before .before .before .before .before .before .before .args .sheet .now) _ _ p records)
     (c .packets .ensures ∙ packets-read (c .before .before .before .before .before .before .before .before .args .sheet .now) _ _ p records)
@@ -40,7 +40,7 @@ read-spec =
     sheet-test-requires
     refused-requires
     returns
-    byte-requires
+    number-at-requires
     probe-records-requires
     parents-requires
     packets-requires

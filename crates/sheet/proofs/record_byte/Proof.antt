@@ -13,18 +13,18 @@ returns c = node-below _ _ _ _ (c .if1 .taken)
 returns-2 : tie.Need-returns-2
 returns-2 c = node-above _ _ _ _ (c .if2 .taken)
 
-mul-byte : tie.Need-mul-byte
-mul-byte c = search needs
+mul-number-at : tie.Need-mul-number-at
+mul-number-at c = search needs
 
-add-byte : tie.Need-add-byte
-add-byte c = search needs
+add-number-at : tie.Need-add-number-at
+add-number-at c = search needs
 
-byte-requires : tie.Need-byte-requires
-byte-requires c κs = search needs
+number-at-requires : tie.Need-number-at-requires
+number-at-requires c κs = search needs
 
 returns-3 : tie.Need-returns-3
-returns-3 c = node-probe _ _ _ _ (c .before .before .if1 .left) (c .before .if2 .left) _ (c .byte .ensures)
+returns-3 c = node-probe _ _ _ _ (c .before .before .if1 .left) (c .before .if2 .left) _ (c .number-at .ensures)
 
 pub record-byte-spec : {M : Type 1} → statement M
 record-byte-spec =
-    tie.close (tie.spec add-n returns returns-2 mul-byte add-byte byte-requires returns-3)
+    tie.close (tie.spec add-n returns returns-2 mul-number-at add-number-at number-at-requires returns-3)

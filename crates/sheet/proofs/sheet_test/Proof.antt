@@ -25,8 +25,8 @@ sheet c = c .before .before .before .before .args .sheet .now
 counts-fine : (c : tie.Else1) → isAccepted (countsTest (sheet c)) ≡ true
 counts-fine c = no-number _ _ (c .before .before .counts-test .ensures) (c .if1 .left)
 
-byte-requires : tie.Need-byte-requires
-byte-requires c κs = search needs
+number-at-requires : tie.Need-number-at-requires
+number-at-requires c κs = search needs
 
 probe-records-requires : tie.Need-probe-records-requires
 probe-records-requires c κs = search needs
@@ -37,7 +37,7 @@ probes-test-requires c κs = search needs
 probes-answer : (c : tie.After-probes-test) → c .probes-test .result ≡ probesAnswer (sheet (c .before .before .before))
 probes-answer c =
     c .probes-test .ensures
-    ∙ probes-read (sheet (c .before .before .before)) _ _ (c .before .before .byte .ensures) (c .before .probe-records .ensures)
+    ∙ probes-read (sheet (c .before .before .before)) _ _ (c .before .before .number-at .ensures) (c .before .probe-records .ensures)
 
 returns-2 : tie.Need-returns-2
 returns-2 c =
@@ -56,12 +56,12 @@ parents-requires c κs = search needs
 walks-test-requires : tie.Need-walks-test-requires
 walks-test-requires c κs =
     let few = few-probes _ (counts-fine (counted (c .before .before))) in
-    omega (arith, few, c .before .before .before .before .before .before .byte .ensures)
+    omega (arith, few, c .before .before .before .before .before .before .number-at .ensures)
 
 walks-answer : (c : tie.After-walks-test) → c .walks-test .result ≡ walksAnswer (sheet (counted (c .before .before .before)))
 walks-answer c =
     let behind = counted (c .before .before .before) in
-    let p = c .before .before .before .before .before .before .before .byte .ensures in
+    let p = c .before .before .before .before .before .before .before .number-at .ensures in
     let records = c .before .before .before .before .before .before .probe-records .ensures in
     c .walks-test .ensures
     ∙ walks-read (sheet behind) (counts-fine behind) _ _ p (c .before .before .parents .ensures ∙ parents-read (sheet behind) _ _ p records)
@@ -90,7 +90,7 @@ pairs-test-requires c κs = search needs
 returns-4 : tie.Need-returns-4
 returns-4 c =
     let behind = c .before .before .before in
-    let p = probed behind .before .before .before .before .byte .ensures in
+    let p = probed behind .before .before .before .before .number-at .ensures in
     c .pairs-test .ensures
     ∙ pairs-read (sheet (counted (probed behind))) _ _ _ p (c .before .pair-count .ensures) (c .before .before .pair-records .ensures)
     ∙ pairs-decide _ (counts-fine (counted (probed behind))) (probes-fine (probed behind)) (walks-fine behind)
@@ -101,7 +101,7 @@ sheet-test-spec =
     (tie.spec
     counts-test-requires
     returns
-    byte-requires
+    number-at-requires
     probe-records-requires
     probes-test-requires
     returns-2

@@ -9,7 +9,7 @@ use Rattle.walk.proofs.Climbing.{climbed-here, climbed-none, climbed-on
 use Rattle.walk.proofs.climb.Reads as climb
 use Rattle.walk.proofs.climb.Kinds as climb-kinds
 use Rattle.walk.proofs.+climb.Lts-climb as climb-lts
-use Rattle.walk.proofs.at_node.Reads as at-node
+use Rattle.meaning.proofs.number_at.Reads as number-at
 use Rattle.walk.proofs.+climb.{statement}
 use Rattle.walk.proofs.+climb.Tie.{close}
 
@@ -23,49 +23,49 @@ climb-at t = and 1 climb-kinds.ps (is 1 climb-kinds.ps μ-climb t) climb.Pre
 abbrev climb-below : ℕ → In 1 climb-kinds.ps
 climb-below t = and 1 climb-kinds.ps (falls 1 climb-kinds.ps _<_ μ-climb t) climb.Pre
 
-climb-returns : (t : ℕ) → climb-lts.Need-returns (at-node.Asked, at-node.Learnt, climb-below t, climb.Post) (climb-at t) climb.Post
+climb-returns : (t : ℕ) → climb-lts.Need-returns (number-at.Asked, number-at.Learnt, climb-below t, climb.Post) (climb-at t) climb.Post
 climb-returns t c = climbed-here _ _ _ (c .if1 .taken)
 
-climb-returns-2 : (t : ℕ) → climb-lts.Need-returns-2 (at-node.Asked, at-node.Learnt, climb-below t, climb.Post) (climb-at t) climb.Post
+climb-returns-2 : (t : ℕ) → climb-lts.Need-returns-2 (number-at.Asked, number-at.Learnt, climb-below t, climb.Post) (climb-at t) climb.Post
 climb-returns-2 t c = climbed-none _ _ _ (c .before .if1 .left) (c .if2 .taken)
 
-climb-cast-at-node : (t : ℕ) → climb-lts.Need-cast-at-node (at-node.Asked, at-node.Learnt, climb-below t, climb.Post) (climb-at t) climb.Post
-climb-cast-at-node t c = search needs
+climb-cast-number-at : (t : ℕ) → climb-lts.Need-cast-number-at (number-at.Asked, number-at.Learnt, climb-below t, climb.Post) (climb-at t) climb.Post
+climb-cast-number-at t c = search needs
 
-climb-at-node-requires : (t : ℕ) → climb-lts.Need-at-node-requires (at-node.Asked, at-node.Learnt, climb-below t, climb.Post) (climb-at t) climb.Post
-climb-at-node-requires t c κs = search needs
+climb-number-at-requires : (t : ℕ) → climb-lts.Need-number-at-requires (number-at.Asked, number-at.Learnt, climb-below t, climb.Post) (climb-at t) climb.Post
+climb-number-at-requires t c κs = search needs
 
-climb-sub-climb : (t : ℕ) → climb-lts.Need-sub-climb (at-node.Asked, at-node.Learnt, climb-below t, climb.Post) (climb-at t) climb.Post
+climb-sub-climb : (t : ℕ) → climb-lts.Need-sub-climb (number-at.Asked, number-at.Learnt, climb-below t, climb.Post) (climb-at t) climb.Post
 climb-sub-climb t c = search needs
 
-climb-climb-requires : (t : ℕ) → climb-lts.Need-climb-requires (at-node.Asked, at-node.Learnt, climb-below t, climb.Post) (climb-at t) climb.Post
+climb-climb-requires : (t : ℕ) → climb-lts.Need-climb-requires (number-at.Asked, number-at.Learnt, climb-below t, climb.Post) (climb-at t) climb.Post
 climb-climb-requires t c κs = search needs
 
-climb-enum-known-level : (t : ℕ) → climb-lts.Need-enum-known-level (at-node.Asked, at-node.Learnt, climb-below t, climb.Post) (climb-at t) climb.Post
+climb-enum-known-level : (t : ℕ) → climb-lts.Need-enum-known-level (number-at.Asked, number-at.Learnt, climb-below t, climb.Post) (climb-at t) climb.Post
 climb-enum-known-level t c = search needs
 
-climb-add-t16 : (t : ℕ) → climb-lts.Need-add-t16 (at-node.Asked, at-node.Learnt, climb-below t, climb.Post) (climb-at t) climb.Post
+climb-add-t16 : (t : ℕ) → climb-lts.Need-add-t16 (number-at.Asked, number-at.Learnt, climb-below t, climb.Post) (climb-at t) climb.Post
 climb-add-t16 t c = omega (arith, climbed-most _ _ _ _ _ (c .before .before .before .before .climb .ensures) (c .before .before .level .given .1))
 
-climb-enum-told : (t : ℕ) → climb-lts.Need-enum-told (at-node.Asked, at-node.Learnt, climb-below t, climb.Post) (climb-at t) climb.Post
+climb-enum-told : (t : ℕ) → climb-lts.Need-enum-told (number-at.Asked, number-at.Learnt, climb-below t, climb.Post) (climb-at t) climb.Post
 climb-enum-told t c = search needs
 
-climb-returns-3 : (t : ℕ) → climb-lts.Need-returns-3 (at-node.Asked, at-node.Learnt, climb-below t, climb.Post) (climb-at t) climb.Post
+climb-returns-3 : (t : ℕ) → climb-lts.Need-returns-3 (number-at.Asked, number-at.Learnt, climb-below t, climb.Post) (climb-at t) climb.Post
 climb-returns-3 t c =
-    climbed-on _ _ _ _ _ _ (c .before .before .before .before .before .before .before .before .if1 .left) (c .before .before .before .before .before .before .before .if2 .left) (c .before .before .before .before .before .at-node .ensures) (c .before .before .before .before .climb .ensures) (c .before .before .level .given .1)
+    climbed-on _ _ _ _ _ _ (c .before .before .before .before .before .before .before .before .if1 .left) (c .before .before .before .before .before .before .before .if2 .left) (c .before .before .before .before .before .number-at .ensures) (c .before .before .before .before .climb .ensures) (c .before .before .level .given .1)
 
-climb-returns-4 : (t : ℕ) → climb-lts.Need-returns-4 (at-node.Asked, at-node.Learnt, climb-below t, climb.Post) (climb-at t) climb.Post
+climb-returns-4 : (t : ℕ) → climb-lts.Need-returns-4 (number-at.Asked, number-at.Learnt, climb-below t, climb.Post) (climb-at t) climb.Post
 climb-returns-4 t c =
-    climbed-on _ _ _ _ _ _ (c .before .before .before .before .before .before .if1 .left) (c .before .before .before .before .before .if2 .left) (c .before .before .before .at-node .ensures) (c .before .before .climb .ensures) (c .enum-told .given .1)
+    climbed-on _ _ _ _ _ _ (c .before .before .before .before .before .before .if1 .left) (c .before .before .before .before .before .if2 .left) (c .before .before .before .number-at .ensures) (c .before .before .climb .ensures) (c .enum-told .given .1)
 
 pub +climb-spec : {M : Type 1} → statement M
 +climb-spec =
     close μ-climb
-    (λ t. climb-lts.spec (at-node.Asked, at-node.Learnt, climb-below t, climb.Post) (climb-at t) climb.Post
+    (λ t. climb-lts.spec (number-at.Asked, number-at.Learnt, climb-below t, climb.Post) (climb-at t) climb.Post
     (climb-returns t)
     (climb-returns-2 t)
-    (climb-cast-at-node t)
-    (climb-at-node-requires t)
+    (climb-cast-number-at t)
+    (climb-number-at-requires t)
     (climb-sub-climb t)
     (climb-climb-requires t)
     (climb-enum-known-level t)

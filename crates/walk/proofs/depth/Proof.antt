@@ -22,14 +22,14 @@ loop-holds : tie.Need-loop-holds Inv-loop μ-loop
 unfolding most
 loop-holds c = (omega arith, refl)
 
-cast-at-node : tie.Need-cast-at-node Inv-loop μ-loop
-cast-at-node c = search needs
+cast-number-at : tie.Need-cast-number-at Inv-loop μ-loop
+cast-number-at c = search needs
 
-add-at-node : tie.Need-add-at-node Inv-loop μ-loop
-add-at-node c = search needs
+add-number-at : tie.Need-add-number-at Inv-loop μ-loop
+add-number-at c = search needs
 
-at-node-requires : tie.Need-at-node-requires Inv-loop μ-loop
-at-node-requires c κs = search needs
+number-at-requires : tie.Need-number-at-requires Inv-loop μ-loop
+number-at-requires c κs = search needs
 
 add-k : tie.Need-add-k Inv-loop μ-loop
 add-k c = search needs
@@ -40,7 +40,7 @@ loop-less c = search needs
 loop-again : tie.Need-loop-again Inv-loop μ-loop
 loop-again c =
     let turn = c .before .before .before .before .loop in
-    let read = c .before .at-node .ensures in
+    let read = c .before .number-at .ensures in
     ⊎-elim (λ w. (omega arith, w .1 ∙ most-larger _ _ _ _ (turn .inv .1) read (w .0 .taken)))
     (λ w. (omega arith, w .1 ∙ most-stays _ _ _ _ (turn .inv .1) read (w .0 .left)))
     (c .if1 .came)
@@ -58,9 +58,9 @@ depth-spec =
     Inv-loop
     μ-loop
     loop-holds
-    cast-at-node
-    add-at-node
-    at-node-requires
+    cast-number-at
+    add-number-at
+    number-at-requires
     add-k
     loop-less
     loop-again

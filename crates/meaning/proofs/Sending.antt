@@ -4,40 +4,14 @@ use mathlib.Core.Path.{_≡_, sym, ap, _∙_, subst}
 use mathlib.Core.List.{List, [], _∷_}
 use mathlib.Core.Logic.{_≢_}
 use Prim.Native.Nat.{ℕ, zero, suc, _+_, _≤_, _<_}
-use native.Mathlib.Nat.{not-suc-le-zero}
 use native.Mathlib.Numerals.{add-one}
 use native.Mathlib.Omega.{arith}
 use lib.ListN.{length, getD, take, length-take}
 use lib.Seq.{getD-take, take-suc, take-all}
 use Rattle.meaning.specs.Words.{places}
 use Rattle.meaning.specs.Rounds.{hop, moved}
 use Rattle.meaning.proofs.Moving.{weigh, Each, Rising, Sender, moved-append, moved-keeps, length-moved, kept}
-
--- each of a list, told by places, and back
-each-at : (P : ℕ → Type 0) (slot : List ℕ) → ((i : ℕ) → i < length slot → P (getD slot i 0)) → Each P slot
-unfolding Each
-each-at P [] all = tt
-each-at P (v ∷ slot) all = (all 0 (omega arith), each-at P slot (λ i hi. all (suc i) (omega arith)))
-
-pub at-each : (P : ℕ → Type 0) (slot : List ℕ) → Each P slot → (i : ℕ) → i < length slot → P (getD slot i 0)
-unfolding Each
-at-each P [] all i h = absurd (not-suc-le-zero h)
-at-each P (v ∷ slot) all zero h = all .0
-at-each P (v ∷ slot) all (suc i) h = at-each P slot (all .1) i (omega arith)
-
--- rising senders are above the ones before
-above : (lo : ℕ) (slot : List ℕ) → Rising lo slot → (i : ℕ) → i < length slot → lo < getD slot i 0
-unfolding Rising
-above lo [] r i h = absurd (not-suc-le-zero h)
-above lo (v ∷ slot) r zero h = r .0
-above lo (v ∷ slot) r (suc i) h = let first : lo < v = r .0 in omega (arith, above v slot (r .1) i (omega arith))
-
-rises : (lo : ℕ) (slot : List ℕ) → Rising lo slot → (i j : ℕ) → i < j → j < length slot → getD slot i 0 < getD slot j 0
-unfolding Rising
-rises lo [] r i j hi hj = absurd (not-suc-le-zero hj)
-rises lo (v ∷ slot) r i zero hi hj = absurd (not-suc-le-zero hi)
-rises lo (v ∷ slot) r zero (suc j) hi hj = above v slot (r .1) j (omega arith)
-rises lo (v ∷ slot) r (suc i) (suc j) hi hj = rises v slot (r .1) i j (omega arith) (omega arith)
+use Rattle.meaning.proofs.Running.{at-each, rising-at}
 
 rising-take : (lo : ℕ) (slot : List ℕ) (i : ℕ) → Rising lo slot → Rising lo (take i slot)
 unfolding Rising
@@ -66,7 +40,7 @@ module _ (parent : ℕ → ℕ) (slot held : List ℕ) (long : length held ≡ p
   pub now-kept : i ≤ length slot → weigh (λ _. 1) now ≡ weigh (λ _. 1) held
   now-kept h =
       kept parent 1 (take i slot) held long (rising-take 1 slot i rising)
-      (each-at (Sender parent held) (take i slot)
+      (at-each (Sender parent held) (take i slot)
       (λ k hk. subst (λ (v : ℕ). Sender parent held v) (sym (among h k hk .1)) (senders k (omega (arith, among h k hk .0)))))
 
   -- the next sender still holds its packet
@@ -74,8 +48,8 @@ module _ (parent : ℕ → ℕ) (slot held : List ℕ) (long : length held ≡ p
   still-sender h =
       let sender = senders i h in
       let others : Each (λ v. getD slot i 0 ≢ v) (take i slot) =
-      each-at (λ v. getD slot i 0 ≢ v) (take i slot)
-      (λ k hk same. let less = rises 1 slot rising k i (among (omega arith) k hk .0) h in omega (arith, among (omega arith) k hk .1, same))
+      at-each (λ v. getD slot i 0 ≢ v) (take i slot)
+      (λ k hk same. let less = rising-at 1 slot rising k i (among (omega arith) k hk .0) h in omega (arith, among (omega arith) k hk .1, same))
       in
       (omega (arith, sender .0, moved-keeps parent (getD slot i 0) (take i slot) held long (sender .1) others), sender .1, sender .2)
 
