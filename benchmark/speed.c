@@ -1,0 +1,114 @@
+// Plans and judgements a second of the proved library and of the second reading (tests/independent/second.c), on three yards: the longest sheet, sixty probes at random, a star.
+// Both answer the same calls turn by turn in one run, and first their answers are compared. Each buffer is cleared before a plan is made, outside the
+// time. speed [TURNS]
+#include "second.h"
+#include <stdio.h>
+#include <stdlib.h>
+#include <string.h>
+#include <time.h>
+
+enum { MOST = 1001, ROOM = 60482 };
+
+static int turns = 21;
+
+static uint8_t sheet[4161], buf[ROOM], other[ROOM];
+static size_t length;
+
+static double now(void) {
+  struct timespec t;
+  clock_gettime(CLOCK_MONOTONIC, &t);
+  return (double)t.tv_sec + 1e-9 * (double)t.tv_nsec;
+}
+
+static uint32_t rnd(uint32_t below) {
+  static uint64_t state = 2026;
+  state = state * 6364136223846793005u + 1442695040888963407u;
+  return (uint32_t)((state >> 33) % below);
+}
+
+// A yard of p probes: parent(v) by shape, packets (0: 1 to 15 at random), a pair with chance 1 in `among` (0: none).
+static void yard(int p, int shape, int packets, uint32_t among) {
+  size_t at = 0, count;
+  int q = 0;
+  sheet[at++] = (uint8_t)p;
+  for (int v = 2; v <= p + 1; v++) {
+    sheet[at++] = (uint8_t)(shape == 0 ? v - 1 : shape == 1 ? 1 : 1 + (int)rnd((uint32_t)v - 1));
+    sheet[at++] = (uint8_t)(packets ? packets : 1 + (int)rnd(15));
+  }
+  count = at, at += 2;
+  for (int a = 1; a <= p + 1; a++)
+    for (int b = a + 1; b <= p + 1; b++)
+      if (among && rnd(among) == 0) sheet[at++] = (uint8_t)a, sheet[at++] = (uint8_t)b, q++;
+  sheet[count] = (uint8_t)(q / 256), sheet[count + 1] = (uint8_t)(q % 256);
+  length = at;
+}
+
+typedef yard_planned planner(const uint8_t *, size_t, uint8_t *, size_t);
+typedef yard_verdict judge(const uint8_t *, size_t, const uint8_t *, size_t);
+
+static double planning(planner *plan, uint8_t *to, int calls) {
+  double taken = 0;
+  for (int k = 0; k < calls; k++) {
+    memset(to, 0, ROOM);
+    double start = now();
+    plan(sheet, length, to, ROOM);
+    taken += now() - start;
+  }
+  return taken / calls;
+}
+
+static double judging(judge *test, size_t bytes, int calls) {
+  double start = now();
+  for (int k = 0; k < calls; k++) test(sheet, length, buf, bytes);
+  return (now() - start) / calls;
+}
+
+static int by_value(const void *a, const void *b) { return *(const double *)a < *(const double *)b ? -1 : *(const double *)a > *(const double *)b; }
+
+static void report(const char *yard, const char *what, double *ratio, double ours, double theirs) {
+  qsort(ratio, (size_t)turns, sizeof *ratio, by_value);
+  printf("%-12s %-9s %10.0f %10.0f   %.2f (%.2f to %.2f)\n", yard, what, 1 / ours, 1 / theirs, ratio[turns / 2], ratio[turns / 10], ratio[turns - 1 - turns / 10]);
+}
+
+static int calls_for(double seconds) { return seconds > 2e-2 ? 1 : (int)(2e-2 / seconds) + 1; }
+
+static void plans(const char *name, const char *what, planner *ours, planner *theirs) {
+  double ratio[MOST], best = 1e9, other_best = 1e9;
+  yard_planned a = ours(sheet, length, buf, ROOM), b = theirs(sheet, length, other, ROOM);
+  if (a.number || b.number || a.bytes != b.bytes || memcmp(buf, other, a.bytes)) printf("bench: the two planners differ on %s\n", name), exit(1);
+  int calls = calls_for(planning(ours, buf, 1));
+  for (int k = 0; k < turns; k++) {
+    double x = planning(ours, buf, calls), z = planning(theirs, other, calls);
+    ratio[k] = x / z, best = x < best ? x : best, other_best = z < other_best ? z : other_best;
+  }
+  report(name, what, ratio, best, other_best);
+}
+
+static void judgements(const char *name) {
+  double ratio[MOST], best = 1e9, other_best = 1e9;
+  size_t bytes = yard_by_probe(sheet, length, buf, ROOM).bytes;
+  yard_verdict a = yard_judge(sheet, length, buf, bytes), b = second_judge(sheet, length, buf, bytes);
+  if (a.number || b.number || a.slots != b.slots) printf("bench: the two judges differ on %s\n", name), exit(1);
+  int calls = calls_for(judging(yard_judge, bytes, 1));
+  for (int k = 0; k < turns; k++) {
+    double x = judging(yard_judge, bytes, calls), z = judging(second_judge, bytes, calls);
+    ratio[k] = x / z, best = x < best ? x : best, other_best = z < other_best ? z : other_best;
+  }
+  report(name, "judge", ratio, best, other_best);
+}
+
+static void all(const char *name) {
+  plans(name, "by probe", yard_by_probe, second_by_probe);
+  plans(name, "by level", yard_by_level, second_by_level);
+  judgements(name);
+}
+
+int main(int argc, char **argv) {
+  if (argc == 2) turns = atoi(argv[1]);
+  if (turns < 1 || turns > MOST) return printf("usage: speed [TURNS], 1 to %d\n", MOST), 2;
+  printf("%-12s %-9s %10s %10s   %s\n", "yard", "work", "ours / s", "C / s", "our time / C's time: median (80% of the turns)");
+  yard(63, 0, 15, 1), all("longest");
+  yard(60, 2, 0, 60), all("sixty");
+  yard(63, 1, 15, 0), all("star");
+  return 0;
+}
