@@ -27,6 +27,11 @@ fn say_number(words: &[u8], n: u64) {
     io::print_decimal(STDOUT_FILENO, n);
 }
 
+// No proved answer has such a number; it is not given another's words.
+fn say_unknown() {
+    say(b"no number of docs/NUMBERS.md");
+}
+
 // What a refusal's number says of the sheet, in the words of docs/NUMBERS.md.
 fn say_sheet(number: u8) {
     match number {
@@ -37,7 +42,8 @@ fn say_sheet(number: u8) {
         5 => say(b"the probe has no packet, or more than 15"),
         6 => say(b"the walk from the probe to its parents never reaches the gateway"),
         7 => say(b"the pair does not name two nodes of the yard, the smaller first"),
-        _ => say(b"the pair is not above the one before it"),
+        8 => say(b"the pair is not above the one before it"),
+        _ => say_unknown(),
     }
 }
 
@@ -47,7 +53,8 @@ fn say_slot(number: u8) {
         12 => say(b"a sender of the slot is no probe of the yard"),
         13 => say(b"the senders of the slot do not rise"),
         14 => say(b"a sender of the slot holds no packet"),
-        _ => say(b"two senders of the slot conflict"),
+        15 => say(b"two senders of the slot conflict"),
+        _ => say_unknown(),
     }
 }
 
@@ -58,7 +65,8 @@ fn say_plan(number: u8) {
         10 => say(b"the plan has more than 65,535 slots"),
         11 => say(b"the plan ends too early"),
         16 => say(b"bytes stand behind the last slot"),
-        _ => say(b"packets are left outside the gateway"),
+        17 => say(b"packets are left outside the gateway"),
+        _ => say_unknown(),
     }
 }
 
