@@ -75,7 +75,7 @@ static int calls_for(double seconds) { return seconds > 2e-2 ? 1 : (int)(2e-2 / 
 static void plans(const char *name, const char *what, planner *ours, planner *theirs) {
   double ratio[MOST], best = 1e9, other_best = 1e9;
   yard_planned a = ours(sheet, length, buf, ROOM), b = theirs(sheet, length, other, ROOM);
-  if (a.number || b.number || a.bytes != b.bytes || memcmp(buf, other, a.bytes)) printf("bench: the two planners differ on %s\n", name), exit(1);
+  if (a.number || b.number || a.place != b.place || a.colours != b.colours || a.slots != b.slots || a.bytes != b.bytes || memcmp(buf, other, a.bytes)) printf("bench: the two planners differ on %s\n", name), exit(1);
   int calls = calls_for(planning(ours, buf, 1));
   for (int k = 0; k < turns; k++) {
     double x = planning(ours, buf, calls), z = planning(theirs, other, calls);
@@ -88,7 +88,7 @@ static void judgements(const char *name) {
   double ratio[MOST], best = 1e9, other_best = 1e9;
   size_t bytes = yard_by_probe(sheet, length, buf, ROOM).bytes;
   yard_verdict a = yard_judge(sheet, length, buf, bytes), b = second_judge(sheet, length, buf, bytes);
-  if (a.number || b.number || a.slots != b.slots) printf("bench: the two judges differ on %s\n", name), exit(1);
+  if (a.number || b.number || a.place != b.place || a.slots != b.slots) printf("bench: the two judges differ on %s\n", name), exit(1);
   int calls = calls_for(judging(yard_judge, bytes, 1));
   for (int k = 0; k < turns; k++) {
     double x = judging(yard_judge, bytes, calls), z = judging(second_judge, bytes, calls);

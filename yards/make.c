@@ -1,5 +1,6 @@
 // Writes the sample yards into the folder that is named: make FOLDER. yards/README.md says what each is.
 #include <stdio.h>
+#include <stdlib.h>
 #include <string.h>
 
 enum { NODES = 65, ROWS = 10, AISLES = 6 };
@@ -12,7 +13,7 @@ static void save(const char *name, const unsigned char *bytes, size_t size) {
   char path[256];
   snprintf(path, sizeof path, "%s/%s.sheet", folder, name);
   FILE *f = fopen(path, "wb");
-  if (!f || fwrite(bytes, 1, size, f) != size || fclose(f)) perror(path);
+  if (!f || fwrite(bytes, 1, size, f) != size || fclose(f)) perror(path), exit(1);
 }
 
 static size_t sheet_of(const Yard *y, unsigned char *s) {

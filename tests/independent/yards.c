@@ -1,6 +1,6 @@
 // Compares the proved library with the second reading of document 01 on random and damaged sheets and plans.
-//   yards SEED PLANNINGS PLANS        compares; a case that differs is kept in files, and printed, so that it can be run again
-//   yards show SHEET [PLAN [PLAN]]    prints what both sides answer for the sheet and the plans in these files
+//   yards SEED YARDS PLANS                 compares; a case that differs is kept in files, and printed, so that it can be run again
+//   yards show ROOM SHEET [PLAN [PLAN]]    prints what both sides answer for the sheet and the plans in these files, with a buffer of ROOM bytes
 #include "second.h"
 #include <stdio.h>
 #include <stdlib.h>
@@ -9,7 +9,8 @@
 enum { NODES = 65, MOST_SHEET = 5000, MOST_PLAN = 300000, DECIDING = 96032, FILL = 0xee, ENOUGH = 200 };
 
 static unsigned char sheet[MOST_SHEET], got[SECOND_TEXT + 8], want[SECOND_TEXT + 8], plan[2][MOST_PLAN], own[SECOND_ROOM];
-static long plannings, plans, listings, numbers[18];
+static unsigned char sheet_lent[MOST_SHEET], plan_lent[2][MOST_PLAN];
+static long sheets, yards, plannings, plans, listings, numbers[18];
 
 // ---- chance
 
@@ -35,8 +36,18 @@ static void keep(const char *name, const unsigned char *bytes, size_t size) {
 static void differ(const char *what, size_t len, size_t room, size_t first, size_t second) {
   printf("DIFFERENT: %s, buffer of %zu bytes\n", what, room);
   keep("sheet", sheet, len), keep("first", plan[0], first), keep("second", plan[1], second);
-  printf("again: target/yards show target/different.sheet target/different.first target/different.second\n");
+  printf("again: tests/independent/run show %zu target/different.sheet target/different.first target/different.second\n", room);
   exit(1);
+}
+
+// What is only lent to be read is copied before the calls, and must be the same afterwards.
+static void lend(size_t len, size_t first, size_t second) {
+  memcpy(sheet_lent, sheet, len), memcpy(plan_lent[0], plan[0], first), memcpy(plan_lent[1], plan[1], second);
+}
+
+static void unchanged(size_t len, size_t first, size_t second) {
+  if (memcmp(sheet_lent, sheet, len) || memcmp(plan_lent[0], plan[0], first) || memcmp(plan_lent[1], plan[1], second))
+    differ("a sheet or a plan was written to", len, 0, first, second);
 }
 
 // ---- the comparisons
@@ -48,10 +59,12 @@ static int same_plan(yard_planned a, yard_planned b) {
 static int same_verdict(yard_verdict a, yard_verdict b) { return a.number == b.number && a.place == b.place && a.slots == b.slots; }
 
 static size_t compare_planner(size_t len, int by_level, size_t room) {
+  lend(len, 0, 0);
   memset(got, FILL, room + 8), memset(want, FILL, room + 8);
   yard_planned a = by_level ? yard_by_level(sheet, len, got, room) : yard_by_probe(sheet, len, got, room);
   yard_planned b = by_level ? second_by_level(sheet, len, want, room) : second_by_probe(sheet, len, want, room);
   plannings++, numbers[b.number]++;
+  unchanged(len, 0, 0);
   if (!same_plan(a, b) || memcmp(got, want, room + 8)) differ(by_level ? "planner by level" : "planner by probe", len, room, 0, 0);
   return b.bytes;
 }
@@ -61,21 +74,25 @@ static yard_verdict compare_judge(size_t len, int which, size_t size) {
   yard_verdict a = yard_judge(sheet, len, plan[which], size), b = second_judge(sheet, len, plan[which], size);
   plans++, numbers[b.number]++;
   if (!same_verdict(a, b)) differ("judge", len, 0, which ? 0 : size, which ? size : 0);
-  if (size > DECIDING && !same_verdict(a, yard_judge(sheet, len, plan[which], DECIDING))) differ("judge of the deciding bytes", len, 0, size, 0);
+  if (size > DECIDING && !same_verdict(a, yard_judge(sheet, len, plan[which], DECIDING))) differ("judge of the deciding bytes", len, 0, which ? 0 : size, which ? size : 0);
   return b;
 }
 
 static void compare_plans(size_t len, size_t first, size_t second) {
+  lend(len, first, second);
   compare_judge(len, 0, first), compare_judge(len, 1, second);
   if (yard_choose(sheet, len, plan[0], first, plan[1], second) != second_choose(sheet, len, plan[0], first, plan[1], second))
     differ("chooser", len, 0, first, second);
+  unchanged(len, first, second);
 }
 
 static void compare_listing(size_t len, size_t room) {
+  lend(len, 0, 0);
   memset(got, FILL, sizeof got), memset(want, FILL, sizeof want);
   size_t a = yard_list(sheet, len, got, room), b = 0;
   if (room >= SECOND_TEXT) b = second_list(sheet, len, (char *)want), want[b] = FILL;
   listings++;
+  unchanged(len, 0, 0);
   if (a != b || memcmp(got, want, sizeof got)) differ("lister", len, room, 0, 0);
 }
 
@@ -187,9 +204,10 @@ static size_t some_plan(unsigned char *to, size_t size) {
   return how < 7 ? damage(to, size, MOST_PLAN - 140000) : size;
 }
 
-static void compare(long want_plannings, long want_plans) {
-  while (plannings < want_plannings || plans < want_plans) {
+static void compare(long want_yards, long want_plans) {
+  while (yards < want_yards || plans < want_plans) {
     size_t len = some_sheet(), room = second_room(sheet, len);
+    sheets++, yards += room > 0;
     if (room == 0) room = rnd(40);
     for (int by_level = 0; by_level < 2; by_level++) {
       uint32_t off = rnd(4);
@@ -247,33 +265,41 @@ static size_t load(const char *path, unsigned char *to, size_t most) {
   return n;
 }
 
-static void show_plan(const char *name, yard_planned r, const unsigned char *bytes) {
-  printf("%s: %d at %d, %d colours, %d slots, %zu bytes: ", name, r.number, r.place, r.colours, r.slots, r.bytes);
-  for (size_t k = 0; k < r.bytes; k++) printf("%02x", bytes[k]);
+static void show_plan(const char *name, yard_planned r, size_t room) {
+  printf("%s: %d at %d, %d colours, %d slots, %zu bytes; buffer: ", name, r.number, r.place, r.colours, r.slots, r.bytes);
+  for (size_t k = 0; k < room; k++) printf("%02x", got[k]);
   printf("\n");
+  memset(got, FILL, sizeof got);
+}
+
+static void show_sheet(size_t len, size_t room) {
+  memset(got, FILL, sizeof got);
+  show_plan("library by probe", yard_by_probe(sheet, len, got, room), room), show_plan("second by probe", second_by_probe(sheet, len, got, room), room);
+  show_plan("library by level", yard_by_level(sheet, len, got, room), room), show_plan("second by level", second_by_level(sheet, len, got, room), room);
+  printf("library lists:\n"), fwrite(got, 1, yard_list(sheet, len, got, SECOND_TEXT), stdout);
+  printf("second lists:\n"), fwrite(got, 1, second_list(sheet, len, (char *)got), stdout);
 }
 
 static void show(int argc, char **argv) {
-  size_t len = load(argv[2], sheet, MOST_SHEET), room = SECOND_ROOM;
-  show_plan("library by probe", yard_by_probe(sheet, len, got, room), got), show_plan("second by probe", second_by_probe(sheet, len, got, room), got);
-  show_plan("library by level", yard_by_level(sheet, len, got, room), got), show_plan("second by level", second_by_level(sheet, len, got, room), got);
-  printf("library lists:\n"), fwrite(got, 1, yard_list(sheet, len, got, SECOND_TEXT), stdout);
-  printf("second lists:\n"), fwrite(got, 1, second_list(sheet, len, (char *)got), stdout);
-  for (int k = 3; k < argc && k < 5; k++) {
-    size_t size = load(argv[k], plan[0], MOST_PLAN);
-    yard_verdict a = yard_judge(sheet, len, plan[0], size), b = second_judge(sheet, len, plan[0], size);
-    printf("%s: library %d at %d, %d slots; second %d at %d, %d slots\n", argv[k], a.number, a.place, a.slots, b.number, b.place, b.slots);
+  size_t room = strtoul(argv[2], 0, 10), len = load(argv[3], sheet, MOST_SHEET), size[2] = {0, 0};
+  show_sheet(len, room < SECOND_ROOM ? room : SECOND_ROOM);
+  for (int k = 0; k < 2 && k + 4 < argc; k++) {
+    size[k] = load(argv[k + 4], plan[k], MOST_PLAN);
+    yard_verdict a = yard_judge(sheet, len, plan[k], size[k]), b = second_judge(sheet, len, plan[k], size[k]);
+    printf("%s: library %d at %d, %d slots; second %d at %d, %d slots\n", argv[k + 4], a.number, a.place, a.slots, b.number, b.place, b.slots);
   }
+  if (argc == 6)
+    printf("chosen: library %d, second %d\n", yard_choose(sheet, len, plan[0], size[0], plan[1], size[1]), second_choose(sheet, len, plan[0], size[0], plan[1], size[1]));
 }
 
 int main(int argc, char **argv) {
-  if (argc >= 3 && !strcmp(argv[1], "show")) return show(argc, argv), 0;
-  if (argc != 4) return printf("usage: yards SEED PLANNINGS PLANS | yards show SHEET [PLAN [PLAN]]\n"), 2;
+  if (argc >= 4 && argc <= 6 && !strcmp(argv[1], "show")) return show(argc, argv), 0;
+  if (argc != 4) return printf("usage: yards SEED YARDS PLANS | yards show ROOM SHEET [PLAN [PLAN]]\n"), 2;
   state = strtoull(argv[1], 0, 10) * 2 + 1;
   yards_to_try();
   compare(atol(argv[2]), atol(argv[3]));
-  if (plannings >= 40000) enough();
-  printf("%ld plannings, %ld listings and %ld judged plans agree; by number:", plannings, listings, plans);
+  if (yards >= 20000) enough();
+  printf("%ld yards and %ld refused sheets, %ld plannings, %ld listings and %ld judged plans agree; by number:", yards, sheets - yards, plannings, listings, plans);
   for (int k = 0; k < 18; k++) printf(" %d: %ld", k, numbers[k]);
   printf("\n");
   return 0;

@@ -151,6 +151,10 @@ fn is_read(fd: i32, is_full: bool) -> bool {
 fn read_file(i: usize, buf: &mut [u8]) -> isize {
     let mut path = io::buffer();
     let n = os::arg(i, &mut path);
+    if os::errno() != 0 {
+        say_failed(b"unreadable ", b"a name that is too long");
+        return -1;
+    }
     let fd = os::open_read(&path[..n]);
     if fd < 0 {
         say_failed(b"unreadable ", &path[..n]);
@@ -169,6 +173,10 @@ fn read_file(i: usize, buf: &mut [u8]) -> isize {
 fn write_file(i: usize, plan: &[u8]) -> bool {
     let mut path = io::buffer();
     let n = os::arg(i, &mut path);
+    if os::errno() != 0 {
+        say_failed(b"unwritable ", b"a name that is too long");
+        return false;
+    }
     let fd = os::open_overwrite(&path[..n]);
     if fd < 0 {
         say_failed(b"unwritable ", &path[..n]);
