@@ -10,11 +10,9 @@ use native.Mathlib.Omega.{arith}
 use borrow.Author.Tests.{le-leb, lt-leb}
 use lib.ListN.{length, drop, length-append}
 use lib.Seq.{sets-eq}
-use Rattle.meaning.specs.declared.Planned.{Planned}
 use Rattle.meaning.specs.Plan.{front}
-use Rattle.meaning.specs.Sheet.{allPackets, heaviest}
-use Rattle.meaning.specs.Lister.{text, decimal, said, firstLine, sendersText, slotLines}
-use Rattle.lines.specs.Line.{lineLength, lineIn, numbersLine, slotLine, Put}
+use Rattle.meaning.specs.Lister.{text, decimal, said, sendersText, slotLines, numbersLine, slotLine}
+use Rattle.lines.specs.Line.{lineLength, lineIn, Put}
 
 -- what a function that writes a line answers, and the buffer afterwards
 abbrev pub Lined : List ℕ → List ℕ → List ℕ → ℕ → Type 0
@@ -38,14 +36,9 @@ line-put {l} {bytes} {after} {end} h p =
           ∙ ap (λ (b : Bool). cond b (front l bytes) l) (sym room),
     )
 
--- line one of a sheet is that of its numbers
-pub first-line : (s : List ℕ) (planned : Planned) → firstLine s planned ≡ numbersLine (planned .colours) (planned .slots) (allPackets s) (heaviest s)
-unfolding numbersLine
-first-line s planned = refl
-
 -- one turn of the other lines is the line of a slot
 pub slot-line : (done : ℕ) (slot : List ℕ) (slots : List (List ℕ)) → slotLines done (slot ∷ slots) ≡ slotLine (suc done) slot ++ slotLines (suc done) slots
-unfolding slotLine slotLines
+unfolding slotLines
 slot-line done slot slots = refl
 
 -- how long the words of the lines are

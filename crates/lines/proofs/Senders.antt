@@ -10,8 +10,8 @@ use borrow.Author.Tests.{le-leb, lt-leb, leb-true, leb-false, not-true, not-fals
 use lib.Dec.{leb}
 use lib.ListN.{length, getD, take, drop, length-append, take-append-drop, drop-of-length-le}
 use lib.Seq.{take-suc, take-all, drop-cons}
-use Rattle.meaning.specs.Lister.{decimal, said, sendersText}
-use Rattle.lines.specs.Line.{slotLine, Put}
+use Rattle.meaning.specs.Lister.{decimal, said, sendersText, slotLine}
+use Rattle.lines.specs.Line.{Put}
 use Rattle.lines.proofs.Putting.{put-none, put-more}
 use Rattle.lines.proofs.Lined.{sender-length, slot-length}
 

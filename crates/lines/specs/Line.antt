@@ -1,4 +1,4 @@
--- Document 01, "The lister": one line into a lent buffer, and the lines over plain numbers.
+-- Document 01, "The lister": one line into a lent buffer.
 use mathlib.Core.Path.{_≡_}
 use mathlib.Core.Bool.{cond}
 use mathlib.Core.List.{List, _++_}
@@ -7,7 +7,6 @@ use lib.Dec.{leb}
 use lib.ListN.{length}
 use lib.Seq.{sets}
 use Rattle.meaning.specs.Plan.{front}
-use Rattle.meaning.specs.Lister.{text, decimal, said, sendersText}
 
 -- how many bytes are written: all, or none where the buffer is too short for the line
 abbrev pub lineLength : List ℕ → List ℕ → ℕ
@@ -16,15 +15,6 @@ lineLength buffer bytes = cond (leb (length bytes) (length buffer)) (length byte
 -- the buffer afterwards: the line at its start and the rest as before, or untouched where it is too short
 abbrev pub lineIn : List ℕ → List ℕ → List ℕ
 lineIn buffer bytes = cond (leb (length bytes) (length buffer)) (front buffer bytes) buffer
-
--- "The lister": line one, of its four numbers
-unfoldable pub numbersLine : ℕ → ℕ → ℕ → ℕ → List ℕ
-numbersLine colours slots packets heaviest =
-    said "colours" colours ++ said " slots" slots ++ said " packets" packets ++ said " heaviest" heaviest ++ text "\n"
-
--- "The lister": the line of one slot
-unfoldable pub slotLine : ℕ → List ℕ → List ℕ
-slotLine number senders = decimal 5 number ++ text ":" ++ sendersText senders ++ text "\n"
 
 -- bytes put at a place of a buffer, and where they end
 pub record Put (before : List ℕ) (at : ℕ) (bytes after : List ℕ) (end : ℕ) : Type 0 where

@@ -4,8 +4,8 @@ ghost use mathlib.Core.List.{_++_};
 ghost use Prim.Native.Nat.{_+_, _≤_};
 ghost use lib.Dec.{leb};
 ghost use lib.ListN.{length};
-ghost use Rattle.meaning.specs.Lister.{decimal, said, sendersText, refusalLine};
-ghost use Rattle.lines.specs.Line.{lineLength, lineIn, numbersLine, slotLine, Put};
+ghost use Rattle.meaning.specs.Lister.{decimal, said, sendersText, refusalLine, numbersLine, slotLine};
+ghost use Rattle.lines.specs.Line.{lineLength, lineIn, Put};
 use meaning::Outcome;
 
 // Puts bytes at a place; says where they end.

@@ -17,11 +17,10 @@ use Rattle.meaning.specs.Plan.{front, planBytes, roomFor}
 use Rattle.meaning.specs.Rounds.{byProbe, slotsOf}
 use Rattle.meaning.specs.Answer.{isAccepted, sheetTest, planTest, planAnswer, planBuffer, refusedPlan}
 use Rattle.meaning.specs.Legal.{heldFirst, Runs}
-use Rattle.meaning.specs.Lister.{firstLine, slotLines, refusalLine, sheetListed}
+use Rattle.meaning.specs.Lister.{firstLine, slotLines, refusalLine, sheetListed, numbersLine}
 use Rattle.meaning.proofs.Accepted.{then-accepted, given-accepted}
 use Rattle.meaning.proofs.Own.{by-probe-plan}
-use Rattle.lines.specs.Line.{lineLength, lineIn, numbersLine}
-use Rattle.lines.proofs.Lined.{first-line}
+use Rattle.lines.specs.Line.{lineLength, lineIn}
 use Rattle.plan.proofs.Writing.{length-front}
 use Rattle.plan.proofs.Going.{part-from}
 use Rattle.listing.specs.Listed.{listRoom, listedLength, listedIn, slotsFrom}
@@ -164,7 +163,7 @@ module _ (s : List ℕ) (buf : List ℕ) (long : length buf ≡ 60482) (planned 
           its-text =
               listed
               ∙ ap (λ (b : Bool). cond b (firstLine s planned ++ slotLines 0 slots) (refusalLine (planned .outcome))) (eq-eqb (planned .outcome .number) 0 passed)
-              ∙ ap₂ (λ (l : List ℕ) (ls : List (List ℕ)). l ++ slotLines 0 ls) (first-line s planned) (sym read)
+              ∙ ap (λ (ls : List (List ℕ)). firstLine s planned ++ slotLines 0 ls) (sym read)
 
           pub list-planned : (part : List ℕ) (more : ℕ) → more ≡ length lines → part ≡ front (take (length out₁ - head) (drop head out₁)) lines
               → Answers s out (putMid head (length out₁ - head) out₁ part) (head + more)

@@ -10,7 +10,8 @@ use Rattle.meaning.specs.Yard.{heaviestOf}
 use Rattle.meaning.specs.Sheet.{probeCount, packetsOf, allPackets, heaviest}
 use Rattle.meaning.specs.Answer.{isAccepted, sheetTest}
 use Rattle.meaning.proofs.Grounds.{parent-read, packets-read}
-use Rattle.lines.specs.Line.{lineLength, lineIn, numbersLine}
+use Rattle.meaning.specs.Lister.{numbersLine}
+use Rattle.lines.specs.Line.{lineLength, lineIn}
 use Rattle.sheet.specs.declared.Yard.{Yard}
 use Rattle.sheet.specs.Yard.{yardOf}
 use Rattle.plan.proofs.Preparing.{yard-read}

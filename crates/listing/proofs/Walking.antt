@@ -12,8 +12,8 @@ use borrow.Rule.Slice.PartMut.{putMid}
 use lib.ListN.{length, getD, take, drop, length-append, length-drop}
 use Rattle.meaning.specs.Plan.{front}
 use Rattle.meaning.specs.Judge.{nextAt, sendersAt}
-use Rattle.meaning.specs.Lister.{slotLines}
-use Rattle.lines.specs.Line.{lineLength, lineIn, slotLine}
+use Rattle.meaning.specs.Lister.{slotLines, slotLine}
+use Rattle.lines.specs.Line.{lineLength, lineIn}
 use Rattle.lines.proofs.Lined.{slot-line}
 use Rattle.plan.proofs.Writing.{length-front}
 use Rattle.plan.proofs.Going.{front-front, part-from, put-behind}

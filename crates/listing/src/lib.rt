@@ -7,8 +7,8 @@ ghost use Rattle.meaning.specs.Sheet.{allPackets, heaviest};
 ghost use Rattle.meaning.specs.Plan.{front};
 ghost use Rattle.meaning.specs.Answer.{isAccepted, sheetTest};
 ghost use Rattle.meaning.specs.Judge.{sendersAt};
-ghost use Rattle.meaning.specs.Lister.{slotLines};
-ghost use Rattle.lines.specs.Line.{lineLength, lineIn, numbersLine};
+ghost use Rattle.meaning.specs.Lister.{slotLines, numbersLine};
+ghost use Rattle.lines.specs.Line.{lineLength, lineIn};
 ghost use Rattle.listing.specs.Listed.{listedLength, listedIn, slotsFrom};
 
 // The senders of the slot at a place of a plan; none past its end.

@@ -26,21 +26,27 @@ decimal (suc more) n = cond (ltb n 10) ((48 + n) ∷ []) (decimal more (n / 10) 
 abbrev pub said : String → ℕ → List ℕ
 said word n = text word ++ text " " ++ decimal 5 n
 
--- "The lister": line one has M, the slots, all packets, and the packets of the heaviest branch
+-- "The lister": line one has M, the slots, all packets, and the packets of the heaviest branch; of the four numbers, and of a sheet
+unfoldable pub numbersLine : ℕ → ℕ → ℕ → ℕ → List ℕ
+numbersLine colours slots packets most =
+    said "colours" colours ++ said " slots" slots ++ said " packets" packets ++ said " heaviest" most ++ text "\n"
+
 abbrev pub firstLine : List ℕ → Planned → List ℕ
-firstLine s planned =
-    said "colours" (planned .colours) ++ said " slots" (planned .slots) ++ said " packets" (allPackets s) ++ said " heaviest" (heaviest s)
-    ++ text "\n"
+firstLine s planned = numbersLine (planned .colours) (planned .slots) (allPackets s) (heaviest s)
 
 -- "The lister": the senders of a slot, each after a space
 unfoldable pub sendersText : List ℕ → List ℕ
 sendersText [] = []
 sendersText (v ∷ slot) = said "" v ++ sendersText slot
 
--- "The lister": each other line has a slot number, from 1, a colon, and its senders; `done` slots stand before
+-- "The lister": each other line has a slot number, a colon, and its senders
+unfoldable pub slotLine : ℕ → List ℕ → List ℕ
+slotLine number slot = decimal 5 number ++ text ":" ++ sendersText slot ++ text "\n"
+
+-- "The lister": the lines of the slots, from 1; `done` slots stand before
 unfoldable pub slotLines : ℕ → List (List ℕ) → List ℕ
 slotLines done [] = []
-slotLines done (slot ∷ slots) = decimal 5 (suc done) ++ text ":" ++ sendersText slot ++ text "\n" ++ slotLines (suc done) slots
+slotLines done (slot ∷ slots) = slotLine (suc done) slot ++ slotLines (suc done) slots
 
 -- "The lister": a refusal prints only its number and place
 abbrev pub refusalLine : Outcome → List ℕ
