@@ -7,11 +7,11 @@
 #include <string.h>
 #include <time.h>
 
-enum { MOST = 1001, ROOM = 60482 };
+enum { MOST = 1001 };
 
 static int turns = 21;
 
-static uint8_t sheet[4161], buf[ROOM], other[ROOM];
+static uint8_t sheet[YARD_SHEET_BYTES], buf[YARD_PLAN_BYTES], other[YARD_PLAN_BYTES];
 static size_t length;
 
 static double now(void) {
@@ -49,9 +49,9 @@ typedef yard_verdict judge(const uint8_t *, size_t, const uint8_t *, size_t);
 static double planning(planner *plan, uint8_t *to, int calls) {
   double taken = 0;
   for (int k = 0; k < calls; k++) {
-    memset(to, 0, ROOM);
+    memset(to, 0, YARD_PLAN_BYTES);
     double start = now();
-    plan(sheet, length, to, ROOM);
+    plan(sheet, length, to, YARD_PLAN_BYTES);
     taken += now() - start;
   }
   return taken / calls;
@@ -74,7 +74,7 @@ static int calls_for(double seconds) { return seconds > 2e-2 ? 1 : (int)(2e-2 / 
 
 static void plans(const char *name, const char *what, planner *ours, planner *theirs) {
   double ratio[MOST], best = 1e9, other_best = 1e9;
-  yard_planned a = ours(sheet, length, buf, ROOM), b = theirs(sheet, length, other, ROOM);
+  yard_planned a = ours(sheet, length, buf, YARD_PLAN_BYTES), b = theirs(sheet, length, other, YARD_PLAN_BYTES);
   if (a.number || b.number || a.place != b.place || a.colours != b.colours || a.slots != b.slots || a.bytes != b.bytes || memcmp(buf, other, a.bytes)) printf("bench: the two planners differ on %s\n", name), exit(1);
   int calls = calls_for(planning(ours, buf, 1));
   for (int k = 0; k < turns; k++) {
@@ -86,7 +86,7 @@ static void plans(const char *name, const char *what, planner *ours, planner *th
 
 static void judgements(const char *name) {
   double ratio[MOST], best = 1e9, other_best = 1e9;
-  size_t bytes = yard_by_probe(sheet, length, buf, ROOM).bytes;
+  size_t bytes = yard_by_probe(sheet, length, buf, YARD_PLAN_BYTES).bytes;
   yard_verdict a = yard_judge(sheet, length, buf, bytes), b = second_judge(sheet, length, buf, bytes);
   if (a.number || b.number || a.place != b.place || a.slots != b.slots) printf("bench: the two judges differ on %s\n", name), exit(1);
   int calls = calls_for(judging(yard_judge, bytes, 1));

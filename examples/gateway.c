@@ -1,36 +1,46 @@
-// How a gateway uses the library: it plans the sheet in a file, sends slot by slot, and has the plan judged. gateway SHEET
+// How a gateway uses the library: it plans the sheet in a file both ways, sends the shorter plan slot by slot, has it judged, and logs the listing. gateway SHEET
 #include "yard.h"
 #include <stdio.h>
 
-enum { SHEET = 4162, PLAN = 60482 };
+static uint8_t sheet[YARD_SHEET_BYTES], by_probe[YARD_PLAN_BYTES], by_level[YARD_PLAN_BYTES], text[YARD_TEXT_BYTES];
 
-static uint8_t sheet[SHEET], plan[PLAN];
+static void tell(const char *way, yard_planned planned) {
+  printf("%s: %d slots, %d colours, %zu bytes\n", way, planned.slots, planned.colours, planned.bytes);
+}
 
 // Each slot of a plan: a count, and then so many senders.
-static void send_all(yard_planned planned) {
+static void send_all(const uint8_t *plan, int slots) {
   size_t at = 2;
-  for (int slot = 1; slot <= planned.slots; slot++) {
+  for (int slot = 1; slot <= slots; slot++) {
     printf("slot %d: probes", slot);
     for (int many = plan[at++]; many > 0; many--) printf(" %d", plan[at++]);
     printf("\n");
   }
 }
 
+static void judge(const char *what, size_t length, const uint8_t *plan, size_t bytes) {
+  yard_verdict verdict = yard_judge(sheet, length, plan, bytes);
+  printf("%s: number %d at %d, %d slots\n", what, verdict.number, verdict.place, verdict.slots);
+}
+
 int main(int argc, char **argv) {
   FILE *file = argc == 2 ? fopen(argv[1], "rb") : NULL;
   if (!file) return printf("usage: gateway SHEET\n"), 2;
-  size_t length = fread(sheet, 1, SHEET, file); // a sheet has at most 4,161 bytes: one more is enough to refuse it
+  size_t length = fread(sheet, 1, YARD_SHEET_BYTES, file); // one byte more than the longest sheet has is enough to refuse it
   fclose(file);
 
-  yard_planned planned = yard_by_probe(sheet, length, plan, PLAN);
-  if (planned.number) return printf("no plan: refused %d at %d\n", planned.number, planned.place), 1;
-  send_all(planned);
+  yard_planned probe = yard_by_probe(sheet, length, by_probe, YARD_PLAN_BYTES), level = yard_by_level(sheet, length, by_level, YARD_PLAN_BYTES);
+  if (probe.number) return printf("no plan: refused %d at %d\n", probe.number, probe.place), 1;
+  tell("by probe", probe), tell("by level", level);
 
-  yard_verdict verdict = yard_judge(sheet, length, plan, planned.bytes);
-  printf("judged: number %d, %d slots\n", verdict.number, verdict.slots);
+  int chosen = yard_choose(sheet, length, by_probe, probe.bytes, by_level, level.bytes);
+  printf("chosen %d, and %d with the two exchanged\n", chosen, yard_choose(sheet, length, by_level, level.bytes, by_probe, probe.bytes));
+  const uint8_t *plan = chosen == 1 ? by_probe : by_level;
+  yard_planned planned = chosen == 1 ? probe : level;
+  send_all(plan, planned.slots);
 
-  static uint8_t by_level[PLAN];
-  yard_planned other = yard_by_level(sheet, length, by_level, PLAN);
-  printf("by probe %d slots, by level %d: chosen %d\n", planned.slots, other.slots, yard_choose(sheet, length, plan, planned.bytes, by_level, other.bytes));
+  judge("judged", length, plan, planned.bytes);
+  judge("judged without its last byte", length, plan, planned.bytes - 1);
+  fwrite(text, 1, yard_list(sheet, length, text, YARD_TEXT_BYTES), stdout); // always the plan by probe
   return 0;
 }

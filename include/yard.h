@@ -2,16 +2,26 @@
 //
 // Every function takes any bytes: the caller tests nothing first, nothing is kept between calls, and nothing is allocated. Every answer is a plan, a
 // verdict or a numbered refusal; docs/NUMBERS.md has the numbers in plain words, docs/CONTRACTS.md says exactly what each function answers.
+// A caller need not read more of a file than YARD_SHEET_BYTES of a sheet and YARD_JUDGED_BYTES of a plan: more changes no answer.
 //
 // What the caller must provide, each time:
 // - a pointer that is valid for the length given with it, and not null even where the length is 0;
 // - a buffer to be written that overlaps none of the other arguments;
-// - 48 KB of stack, and 112 KB for yard_list.
+// - YARD_STACK bytes of stack, and YARD_LIST_STACK for yard_list.
 #ifndef YARD_H
 #define YARD_H
 
 #include <stddef.h>
 #include <stdint.h>
+
+enum {
+  YARD_SHEET_BYTES = 4162,      // how much of a sheet decides every answer: one byte more than the longest has
+  YARD_PLAN_BYTES = 60482,      // room for any plan of ours
+  YARD_JUDGED_BYTES = 96032,    // how much of a plan, from anybody, decides its verdict
+  YARD_TEXT_BYTES = 302455,     // room for any listing
+  YARD_LIST_STACK = 112 * 1024, // stack that a call of yard_list wants
+  YARD_STACK = 48 * 1024        // stack that a call of any other function wants
+};
 
 // What a planner answers. Planned: number and place are 0, and the plan has so many colours, slots and bytes.
 // Refused: number is 1 to 9, place says where, and colours, slots and bytes are 0.
@@ -31,7 +41,7 @@ typedef struct {
   uint16_t slots;
 } yard_verdict;
 
-// Plans by probe. The caller provides a sheet and a buffer of 2 + 2 x hops bytes; 60,482 are enough for any sheet.
+// Plans by probe. The caller provides a sheet and a buffer of 2 + 2 x hops bytes; YARD_PLAN_BYTES are enough for any sheet.
 // It gets the plan in the first `bytes` bytes of the buffer; the bytes behind it stay. A refusal (9: the buffer is too short) leaves the whole buffer as it was.
 yard_planned yard_by_probe(const uint8_t *sheet, size_t sheet_length, uint8_t *buf, size_t buf_length);
 
@@ -45,8 +55,8 @@ yard_verdict yard_judge(const uint8_t *sheet, size_t sheet_length, const uint8_t
 // 0 where neither passes or the sheet is refused, and then the judge says why. Nothing is written.
 uint8_t yard_choose(const uint8_t *sheet, size_t sheet_length, const uint8_t *first, size_t first_length, const uint8_t *second, size_t second_length);
 
-// Lists a sheet: the plan by probe as text, or the line `refused N P`. The caller provides 302,455 bytes for the text, whatever the sheet, and gets the
-// text's length; the bytes behind it stay, and no zero byte ends it. A shorter buffer is left as it was, and the answer is 0, which no text's length is.
+// Lists a sheet: the plan by probe as text, or the line `refused N P`. The caller provides YARD_TEXT_BYTES for the text, whatever the sheet, and gets
+// the text's length; the bytes behind it stay, and no zero byte ends it. A shorter buffer is left as it was, and the answer is 0, which no text's length is.
 size_t yard_list(const uint8_t *sheet, size_t sheet_length, uint8_t *text, size_t text_length);
 
 #endif

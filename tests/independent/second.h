@@ -5,14 +5,12 @@
 
 #include "yard.h"
 
-enum { SECOND_ROOM = 60482, SECOND_TEXT = 302455 };
-
 yard_planned second_by_probe(const uint8_t *sheet, size_t length, uint8_t *buf, size_t room);
 yard_planned second_by_level(const uint8_t *sheet, size_t length, uint8_t *buf, size_t room);
 yard_verdict second_judge(const uint8_t *sheet, size_t length, const uint8_t *plan, size_t size);
 uint8_t second_choose(const uint8_t *sheet, size_t length, const uint8_t *first, size_t first_size, const uint8_t *second, size_t second_size);
 
-// The lister's text, into a buffer of at least SECOND_TEXT bytes.
+// The lister's text, into a buffer of at least YARD_TEXT_BYTES bytes.
 size_t second_list(const uint8_t *sheet, size_t length, char *text);
 
 // The room that a planner wants for a sheet, 0 where the sheet is refused.

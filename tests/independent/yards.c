@@ -6,9 +6,9 @@
 #include <stdlib.h>
 #include <string.h>
 
-enum { NODES = 65, MOST_SHEET = 5000, MOST_PLAN = 300000, DECIDING = 96032, FILL = 0xee, ENOUGH = 200 };
+enum { NODES = 65, MOST_SHEET = 5000, MOST_PLAN = 300000, FILL = 0xee, ENOUGH = 200 };
 
-static unsigned char sheet[MOST_SHEET], got[SECOND_TEXT + 8], want[SECOND_TEXT + 8], plan[2][MOST_PLAN], own[SECOND_ROOM];
+static unsigned char sheet[MOST_SHEET], got[YARD_TEXT_BYTES + 8], want[YARD_TEXT_BYTES + 8], plan[2][MOST_PLAN], own[YARD_PLAN_BYTES];
 static unsigned char sheet_lent[MOST_SHEET], plan_lent[2][MOST_PLAN];
 static long sheets, yards, plannings, plans, listings, numbers[18];
 
@@ -74,7 +74,7 @@ static yard_verdict compare_judge(size_t len, int which, size_t size) {
   yard_verdict a = yard_judge(sheet, len, plan[which], size), b = second_judge(sheet, len, plan[which], size);
   plans++, numbers[b.number]++;
   if (!same_verdict(a, b)) differ("judge", len, 0, which ? 0 : size, which ? size : 0);
-  if (size > DECIDING && !same_verdict(a, yard_judge(sheet, len, plan[which], DECIDING))) differ("judge of the deciding bytes", len, 0, which ? 0 : size, which ? size : 0);
+  if (size > YARD_JUDGED_BYTES && !same_verdict(a, yard_judge(sheet, len, plan[which], YARD_JUDGED_BYTES))) differ("judge of the deciding bytes", len, 0, which ? 0 : size, which ? size : 0);
   return b;
 }
 
@@ -90,7 +90,7 @@ static void compare_listing(size_t len, size_t room) {
   lend(len, 0, 0);
   memset(got, FILL, sizeof got), memset(want, FILL, sizeof want);
   size_t a = yard_list(sheet, len, got, room), b = 0;
-  if (room >= SECOND_TEXT) b = second_list(sheet, len, (char *)want), want[b] = FILL;
+  if (room >= YARD_TEXT_BYTES) b = second_list(sheet, len, (char *)want), want[b] = FILL;
   listings++;
   unchanged(len, 0, 0);
   if (a != b || memcmp(got, want, sizeof got)) differ("lister", len, room, 0, 0);
@@ -219,14 +219,14 @@ static void compare(long want_yards, long want_plans) {
         compare_plans(len, first, second);
       }
     }
-    compare_listing(len, rnd(16) ? SECOND_TEXT : SECOND_TEXT - 1);
+    compare_listing(len, rnd(16) ? YARD_TEXT_BYTES : YARD_TEXT_BYTES - 1);
   }
 }
 
 // ---- the rows of "Yards to try" that are run and compared, by name
 
 static void named(const char *name, size_t len, size_t room) {
-  compare_planner(len, 1, room), compare_planner(len, 0, room), compare_listing(len, SECOND_TEXT);
+  compare_planner(len, 1, room), compare_planner(len, 0, room), compare_listing(len, YARD_TEXT_BYTES);
   yard_planned r = yard_by_probe(sheet, len, got, room);
   printf("%s: %d at %d, %d colours, %d slots, %zu bytes\n", name, r.number, r.place, r.colours, r.slots, r.bytes);
 }
@@ -244,9 +244,18 @@ static void yards_to_try(void) {
   memcpy(sheet, a, sizeof a);
   named("A with a 9-byte buffer", sizeof a, 9);
   named("A with a 10-byte buffer", sizeof a, 10);
-  named("p = 63", chain(63, 15), SECOND_ROOM);
-  named("p = 64", chain(64, 15), SECOND_ROOM);
-  named("no bytes at all", 0, SECOND_ROOM);
+  named("p = 63", chain(63, 15), YARD_PLAN_BYTES);
+  named("p = 64", chain(64, 15), YARD_PLAN_BYTES);
+  named("no bytes at all", 0, YARD_PLAN_BYTES);
+}
+
+// The header's sizes are exact, by the longest sheet and plans that there are; the room for a listing is tried with every listing.
+static void sizes(void) {
+  size_t len = chain(63, 15), size = second_by_probe(sheet, len, plan[0], YARD_PLAN_BYTES).bytes;
+  if (len + 2 * 2016 + 1 != YARD_SHEET_BYTES || second_room(sheet, len) != YARD_PLAN_BYTES) differ("a size of yard.h", len, YARD_PLAN_BYTES, 0, 0);
+  for (int slots = plan[0][0] * 256 + plan[0][1]; slots < 65534; slots++) plan[0][size++] = 0;
+  put_count(plan[0], 65535), plan[0][size++] = 255, memset(plan[0] + size, 2, 255), size += 255;
+  if (size != YARD_JUDGED_BYTES || compare_judge(len, 0, size).number != 13 || compare_judge(len, 0, size - 1).number != 11) differ("YARD_JUDGED_BYTES", len, 0, size, 0);
 }
 
 // Every refusal is met often enough, or the comparison says little; 10 is never given.
@@ -276,13 +285,13 @@ static void show_sheet(size_t len, size_t room) {
   memset(got, FILL, sizeof got);
   show_plan("library by probe", yard_by_probe(sheet, len, got, room), room), show_plan("second by probe", second_by_probe(sheet, len, got, room), room);
   show_plan("library by level", yard_by_level(sheet, len, got, room), room), show_plan("second by level", second_by_level(sheet, len, got, room), room);
-  printf("library lists:\n"), fwrite(got, 1, yard_list(sheet, len, got, SECOND_TEXT), stdout);
+  printf("library lists:\n"), fwrite(got, 1, yard_list(sheet, len, got, YARD_TEXT_BYTES), stdout);
   printf("second lists:\n"), fwrite(got, 1, second_list(sheet, len, (char *)got), stdout);
 }
 
 static void show(int argc, char **argv) {
   size_t room = strtoul(argv[2], 0, 10), len = load(argv[3], sheet, MOST_SHEET), size[2] = {0, 0};
-  show_sheet(len, room < SECOND_ROOM ? room : SECOND_ROOM);
+  show_sheet(len, room < YARD_PLAN_BYTES ? room : YARD_PLAN_BYTES);
   for (int k = 0; k < 2 && k + 4 < argc; k++) {
     size[k] = load(argv[k + 4], plan[k], MOST_PLAN);
     yard_verdict a = yard_judge(sheet, len, plan[k], size[k]), b = second_judge(sheet, len, plan[k], size[k]);
@@ -297,6 +306,7 @@ int main(int argc, char **argv) {
   if (argc != 4) return printf("usage: yards SEED YARDS PLANS | yards show ROOM SHEET [PLAN [PLAN]]\n"), 2;
   state = strtoull(argv[1], 0, 10) * 2 + 1;
   yards_to_try();
+  sizes();
   compare(atol(argv[2]), atol(argv[3]));
   if (yards >= 20000) enough();
   printf("%ld yards and %ld refused sheets, %ld plannings, %ld listings and %ld judged plans agree; by number:", yards, sheets - yards, plannings, listings, plans);

@@ -2,9 +2,10 @@
 ghost use mathlib.Core.Path.{_≡_};
 ghost use mathlib.Core.Bool.{cond};
 ghost use Prim.Native.Nat.{max};
-ghost use lib.ListN.{getD};
-ghost use Rattle.meaning.specs.Words.{sumProbes};
+ghost use lib.ListN.{length, getD};
+ghost use Rattle.meaning.specs.Words.{places, sumProbes};
 ghost use Rattle.meaning.specs.Yard.{reaches, branchPackets, heaviestOf};
+use meaning::Probe;
 
 // All packets of the p probes.
 pub fn all_packets(p: u8, packets: &[u8; 65]) -> u16
@@ -13,46 +14,50 @@ pub fn all_packets(p: u8, packets: &[u8; 65]) -> u16
     let mut all: u16 = 0;
     let mut k: u8 = 0;
     while k < p {
-        all += meaning::number_at(packets, k as usize + 2) as u16;
+        all += laws::number_at(packets, k as usize + 2) as u16;
         k += 1;
     }
     all
 }
 
 // Whether the walk to parents from v comes to top, in at most so many hops.
-fn comes_to(parents: &[u8; 65], top: usize, hops: u8, v: usize) -> bool
-    ensures { λ r. ⌜ r ≡ reaches (λ u. getD (now (parents .entry)) u 0) top hops v ⌝ }
+fn comes_to(parents: &[u8; 65], top: Probe, hops: u8, v: Probe) -> bool
+    ensures { λ r. ⌜ r ≡ reaches (λ u. getD (now (parents .entry)) u 0) (top .0) hops (v .0) ⌝ }
 {
-    let mut node = v;
+    let end = top.0 as usize;
+    let mut node = v.0 as usize;
     let mut left = hops;
     while 0 < left {
-        if node == top {
+        if node == end {
             return true;
         }
-        node = meaning::number_at(parents, node) as usize;
+        node = laws::number_at(parents, node) as usize;
         left -= 1;
     }
-    node == top
+    node == end
 }
 
 // The packets that v brings to the branch of top.
-fn brought(p: u8, parents: &[u8; 65], packets: &[u8; 65], top: usize, v: usize) -> u8
-    ensures { λ r. ⌜ r ≡ cond (reaches (λ u. getD (now (parents .entry)) u 0) top p v) (getD (now (packets .entry)) v 0) 0 ⌝ }
+fn brought(p: u8, parents: &[u8; 65], packets: &[u8; 65], top: Probe, v: Probe) -> u8
+    ensures { λ r. ⌜ r ≡ cond (reaches (λ u. getD (now (parents .entry)) u 0) (top .0) p (v .0)) (getD (now (packets .entry)) (v .0) 0) 0 ⌝ }
 {
     if comes_to(parents, top, p, v) {
-        return meaning::number_at(packets, v);
+        return laws::number_at(packets, v.0 as usize);
     }
     0
 }
 
-// The packets of the branch of top.
-fn branch(p: u8, parents: &[u8; 65], packets: &[u8; 65], top: usize) -> u16
-    ensures { λ r. ⌜ r ≡ branchPackets p (λ u. getD (now (parents .entry)) u 0) (λ v. getD (now (packets .entry)) v 0) top ⌝ }
+// The packets of the branch of top; a probe past the table's end has none.
+fn branch(p: u8, parents: &[u8; 65], packets: &[u8; 65], top: Probe) -> u16
+    requires { ⌜ length (now packets) ≡ places ⌝ }
+    ensures { λ r. ⌜ r ≡ branchPackets p (λ u. getD (now (parents .entry)) u 0) (λ v. getD (now (packets .entry)) v 0) (top .0) ⌝ }
 {
     let mut all: u16 = 0;
     let mut k: u8 = 0;
     while k < p {
-        all += brought(p, parents, packets, top, k as usize + 2) as u16;
+        if k < 63 {
+            all += brought(p, parents, packets, top, Probe(k + 2)) as u16;
+        }
         k += 1;
     }
     all
@@ -68,14 +73,16 @@ fn larger(a: u16, b: u16) -> u16
     a
 }
 
-// The packets of the heaviest branch, 0 with no probes.
+// The packets of the heaviest branch, 0 with no probes; 256, the last of 255 probes, is no byte, and no walk comes to it.
 pub fn heaviest(p: u8, parents: [u8; 65], packets: [u8; 65]) -> u16
     ensures { λ r. ⌜ r ≡ heaviestOf p (λ v. getD parents v 0) (λ v. getD packets v 0) ⌝ }
 {
     let mut best: u16 = 0;
     let mut k: u8 = 0;
     while k < p {
-        best = larger(best, branch(p, &parents, &packets, k as usize + 2));
+        if k < 254 {
+            best = larger(best, branch(p, &parents, &packets, Probe(k + 2)));
+        }
         k += 1;
     }
     best

@@ -11,8 +11,8 @@ use lib.ListN.{getD, replicate}
 use Rattle.meaning.specs.Words.{tab, places}
 use Rattle.meaning.specs.Yard.{isProbe}
 use Rattle.meaning.specs.Conflict.{tableOf, entry, linked, disturb, conflict}
-use Rattle.meaning.proofs.Slots.{and-left}
-use Rattle.meaning.proofs.Turns.{getD-tab, tab-same}
+use Rattle.laws.proofs.Slots.{and-left}
+use Rattle.laws.proofs.Turns.{getD-tab, tab-same}
 use Rattle.conflict.specs.Marks.{rowsOf}
 use Rattle.conflict.specs.Heard.{probeAt, ofProbe, heardIn, heardOf, heardRow, eitherWay}
 use Rattle.conflict.proofs.Tables.{table-same, entry-of, all-same}

@@ -15,7 +15,7 @@ use Rattle.meaning.specs.Words.{forEach, some, someProbe, tab, places}
 use Rattle.meaning.specs.Sheet.{firstOf, secondOf, interfere}
 use Rattle.meaning.specs.Conflict.{tableOf, entry}
 use Rattle.meaning.specs.Colour.{levelsConflict}
-use Rattle.meaning.proofs.Turns.{forEach-one, forEach-stays, some-one, length-tab, getD-tab, tab-same, tab-full}
+use Rattle.laws.proofs.Turns.{forEach-one, forEach-stays, some-one, length-tab, getD-tab, tab-same, tab-full}
 use Rattle.conflict.specs.Marks.{rowsOf, marked, levelsMarked}
 
 -- tables of relations that agree are equal

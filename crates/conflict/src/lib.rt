@@ -9,6 +9,7 @@ ghost use Rattle.meaning.specs.Conflict.{tableOf, entry, conflict};
 ghost use Rattle.meaning.specs.Colour.{levelsConflict};
 ghost use Rattle.conflict.specs.Marks.{rowsOf, marked, levelsMarked};
 ghost use Rattle.conflict.specs.Heard.{probeAt, ofProbe, heardIn, heardRow, eitherWay};
+use meaning::Level;
 
 // The number of a node in a list by node, 0 outside the list.
 fn number_of(list: &[u8; 65], v: usize) -> u8
@@ -37,8 +38,8 @@ fn pair_table(records: &[u8], q: u16) -> [[bool; 65]; 256]
     let n = q as usize;
     let mut k: usize = 0;
     while k < n {
-        let a = meaning::number_at(records, 2 * k);
-        let b = meaning::number_at(records, 2 * k + 1);
+        let a = laws::number_at(records, 2 * k);
+        let b = laws::number_at(records, 2 * k + 1);
         pair(&mut t, a, b);
         pair(&mut t, b, a);
         k += 1;
@@ -153,12 +154,12 @@ pub fn table(p: u8, parents: [u8; 65], records: &[u8], q: u16) -> [[bool; 65]; 6
     t
 }
 
-// Two numbers are related from now on, where both have a place.
-fn mark(t: &mut [[bool; 65]; 65], a: u8, b: u8)
-    ensures { λ _. ⌜ now (t .exit) ≡ marked places (now (t .entry)) a b ⌝ }
+// Two levels are related from now on, where both have a place.
+fn mark(t: &mut [[bool; 65]; 65], a: Level, b: Level)
+    ensures { λ _. ⌜ now (t .exit) ≡ marked places (now (t .entry)) (a .0) (b .0) ⌝ }
 {
-    let i = a as usize;
-    let j = b as usize;
+    let i = a.0 as usize;
+    let j = b.0 as usize;
     if i < 65 {
         if j < 65 {
             t[i][j] = true;
@@ -167,8 +168,8 @@ fn mark(t: &mut [[bool; 65]; 65], a: u8, b: u8)
 }
 
 // The levels of the probes in the row of a probe are marked against its own level, a.
-fn mark_levels(t: &mut [[bool; 65]; 65], p: u8, levels: [u8; 65], row: [bool; 65], a: u8)
-    ensures { λ _. ⌜ now (t .exit) ≡ levelsMarked p (λ v. getD levels v 0) (λ y. getD row y false) a (now (t .entry)) ⌝ }
+fn mark_levels(t: &mut [[bool; 65]; 65], p: u8, levels: [u8; 65], row: [bool; 65], a: Level)
+    ensures { λ _. ⌜ now (t .exit) ≡ levelsMarked p (λ v. getD levels v 0) (λ y. getD row y false) (a .0) (now (t .entry)) ⌝ }
 {
     let n = p as usize;
     let mut k: usize = 0;
@@ -177,8 +178,8 @@ fn mark_levels(t: &mut [[bool; 65]; 65], p: u8, levels: [u8; 65], row: [bool; 65
         if y < 65 {
             let b = levels[y];
             if row[y] {
-                if a != b {
-                    mark(t, a, b);
+                if a.0 != b {
+                    mark(t, a, Level(b));
                 }
             }
         }
@@ -197,7 +198,8 @@ pub fn level_table(p: u8, levels: [u8; 65], table: [[bool; 65]; 65]) -> [[bool; 
         let x = k + 2;
         if x < 65 {
             let row = table[x];
-            mark_levels(&mut t, p, levels, row, levels[x]);
+            let a = levels[x];
+            mark_levels(&mut t, p, levels, row, Level(a));
         }
         k += 1;
     }

@@ -12,9 +12,9 @@ use Rattle.meaning.specs.Sheet.{probeCount, parentOf, packetsOf, allPackets}
 use Rattle.meaning.specs.Conflict.{entry, conflictTable}
 use Rattle.meaning.specs.Answer.{isAccepted, sheetTest}
 use Rattle.meaning.specs.Judge.{Judging, slotJudged, slotsJudged}
-use Rattle.meaning.proofs.Turns.{forEach-keeps, length-tab}
-use Rattle.meaning.proofs.Moving.{weigh}
-use Rattle.meaning.proofs.Grounds.{packets-first, few-probes, few-packets, parent-node}
+use Rattle.laws.proofs.Turns.{forEach-keeps, length-tab}
+use Rattle.laws.proofs.Moving.{weigh}
+use Rattle.laws.proofs.Grounds.{packets-first, few-probes, few-packets, parent-node}
 use Rattle.judge.specs.Turn.{judgingFrom}
 use Rattle.judge.proofs.Turning.{turn-long, turn-kept}
 

@@ -10,8 +10,8 @@ use Rattle.meaning.specs.declared.Outcome.{Outcome}
 use Rattle.meaning.specs.Words.{forEach}
 use Rattle.meaning.specs.Answer.{accepted, isAccepted}
 use Rattle.meaning.specs.Judge.{Judging, slotJudged, slotsJudged}
-use Rattle.meaning.proofs.Turns.{forEach-one, forEach-stays}
-use Rattle.meaning.proofs.Moving.{weigh}
+use Rattle.laws.proofs.Turns.{forEach-one, forEach-stays}
+use Rattle.laws.proofs.Moving.{weigh}
 use Rattle.judge.specs.Turn.{judgingFrom, Ready}
 use Rattle.judge.proofs.Turning.{turn-inside, turn-long, turn-kept}
 

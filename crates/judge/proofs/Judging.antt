@@ -15,10 +15,10 @@ use Rattle.meaning.specs.Conflict.{entry, tableOf, conflict, conflictTable}
 use Rattle.meaning.specs.Rounds.{outside}
 use Rattle.meaning.specs.Answer.{accepted, isAccepted, given, _then_, sheetTest}
 use Rattle.meaning.specs.Judge.{Judging, slotsJudged, planJudgedBy, planJudged, judge}
-use Rattle.meaning.proofs.Turns.{length-tab, getD-places}
-use Rattle.meaning.proofs.Walk.{probe-past}
-use Rattle.meaning.proofs.Accepted.{accepted-yard, then-stays, then-goes, parent-outside}
-use Rattle.meaning.proofs.Grounds.{few-probes, few-packets, parent-node}
+use Rattle.laws.proofs.Turns.{length-tab, getD-places}
+use Rattle.laws.proofs.Walk.{probe-past}
+use Rattle.laws.proofs.Accepted.{accepted-yard, then-stays, then-goes, parent-outside}
+use Rattle.laws.proofs.Grounds.{few-probes, few-packets, parent-node}
 use Rattle.sheet.specs.declared.Yard.{Yard}
 use Rattle.sheet.specs.Yard.{refusedYard, yardOf}
 use Rattle.judge.specs.Turn.{judgingFrom, Ready, refusedVerdict}

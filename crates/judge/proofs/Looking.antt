@@ -7,7 +7,7 @@ use native.Mathlib.Omega.{arith}
 use borrow.Author.Tests.{le-ltb}
 use lib.Dec.{ltb}
 use Rattle.meaning.specs.Words.{some}
-use Rattle.meaning.proofs.Turns.{below-or-last, some-one, some-found, some-none, none-some}
+use Rattle.laws.proofs.Turns.{below-or-last, some-one, some-found, some-none, none-some}
 
 -- as far as number k of n: none of those before passes
 pub record Looking (test : ℕ → Bool) (n k : ℕ) : Type 0 where

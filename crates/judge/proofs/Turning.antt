@@ -14,8 +14,8 @@ use Rattle.meaning.specs.Words.{places}
 use Rattle.meaning.specs.Rounds.{moved}
 use Rattle.meaning.specs.Answer.{isAccepted, given, _then_}
 use Rattle.meaning.specs.Judge.{nextAt, sendersAt, slotTest, Judging, slotJudged}
-use Rattle.meaning.proofs.Moving.{weigh, length-moved, kept}
-use Rattle.meaning.proofs.Accepted.{then-goes, then-accepted, given-accepted}
+use Rattle.laws.proofs.Moving.{weigh, length-moved, kept}
+use Rattle.laws.proofs.Accepted.{then-goes, then-accepted, given-accepted}
 use Rattle.judge.specs.declared.SlotAt.{SlotAt}
 use Rattle.judge.specs.Slot.{slotAt}
 use Rattle.judge.specs.Turn.{judgingFrom, Ready}

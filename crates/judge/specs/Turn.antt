@@ -10,7 +10,7 @@ use Rattle.meaning.specs.Words.{places}
 use Rattle.meaning.specs.Yard.{isProbe}
 use Rattle.meaning.specs.Answer.{accepted}
 use Rattle.meaning.specs.Judge.{Judging}
-use Rattle.meaning.proofs.Moving.{weigh}
+use Rattle.laws.proofs.Moving.{weigh}
 use Rattle.judge.specs.declared.Judged.{Judged}
 
 -- each sender is a node

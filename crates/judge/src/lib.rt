@@ -11,7 +11,7 @@ ghost use Rattle.meaning.specs.Conflict.{entry};
 ghost use Rattle.meaning.specs.Rounds.{holds, outside, hop, moved};
 ghost use Rattle.meaning.specs.Answer.{accepted};
 ghost use Rattle.meaning.specs.Judge.{slotTest, slotJudged, slotsJudged, judge, planJudgedBy};
-ghost use Rattle.meaning.proofs.Moving.{weigh, Rising, Sender};
+ghost use Rattle.laws.proofs.Moving.{weigh, Rising, Sender};
 ghost use Rattle.judge.specs.Slot.{slotAt};
 ghost use Rattle.judge.specs.Turn.{Nodes, judging, judgingFrom, Ready, refusedVerdict};
 use meaning::Outcome;
@@ -56,7 +56,7 @@ pub fn slot_at(plan: &[u8], at: usize) -> SlotAt
 fn slot_count(plan: &[u8]) -> u16
     ensures { λ r. ⌜ r ≡ twoAt (now (plan .entry)) 0 ⌝ }
 {
-    256 * (meaning::number_at(plan, 0) as u16) + meaning::number_at(plan, 1) as u16
+    256 * (laws::number_at(plan, 0) as u16) + laws::number_at(plan, 1) as u16
 }
 
 // The number of a refusal at its place.

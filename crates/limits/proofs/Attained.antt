@@ -9,7 +9,7 @@ use Rattle.meaning.specs.declared.Outcome.{Outcome}
 use Rattle.meaning.specs.declared.Planned.{Planned}
 use Rattle.meaning.specs.declared.Verdict.{Verdict}
 use Rattle.meaning.specs.Words.{forEach, some, sum, most, tab, probesThat}
-use Rattle.meaning.specs.Yard.{reaches, climb}
+use Rattle.meaning.specs.Yard.{reaches, climb, climbed}
 use Rattle.meaning.specs.Sheet.{parentOf, packetsOf, levelOf, hops, allPackets, heaviest, interfere}
 use Rattle.meaning.specs.Plan.{slotBytes, planBytes}
 use Rattle.meaning.specs.Conflict.{disturb, conflict, conflictTable}
@@ -34,7 +34,7 @@ abbrev pub least-tight : Verdict → Bool
 least-tight r = isAccepted (r .outcome) && eqb (r .slots) (allPackets lone)
 
 pub attained : T (by-probe-tight (planAnswer lone (byProbe lone) 32) && (by-level-tight (planAnswer lone (byLevel lone) 32) && least-tight (judge lone (planBytes (slotsOf lone (byProbe lone))))))
-unfolding forEach some sum most tab probesThat reaches climb parentOf packetsOf levelOf hops allPackets heaviest interfere slotBytes
+unfolding forEach some sum most tab probesThat reaches climb climbed parentOf packetsOf levelOf hops allPackets heaviest interfere slotBytes
     disturb conflict conflictTable smallestFree nextOf colouredBy probeColours levelsConflict levels depth levelColours
     joined ownersByProbe ownersByLevel slotOf moved recorded round rounds byProbe byLevel slotsOf
     _then_ inOrder probeTest walkTest pairTest countsTest sheetTest planTest planAnswer

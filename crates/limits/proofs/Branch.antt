@@ -10,9 +10,9 @@ use lib.Dec.{eqb}
 use borrow.Author.Tests.{eq-eqb, ne-eqb, eqb-true}
 use Rattle.meaning.specs.Words.{sum, sumProbes}
 use Rattle.meaning.specs.Yard.{isProbe, reaches, climb, branchPackets}
-use Rattle.meaning.proofs.Turns.{sum-same, same-or-other}
-use Rattle.meaning.proofs.Walk.{not-both, probe-yes, probe-least, reaches-here, reaches-on, reaches-none, climb-up}
-use Rattle.meaning.proofs.Slots.{true-or-false}
+use Rattle.laws.proofs.Turns.{sum-same, same-or-other}
+use Rattle.laws.proofs.Walk.{not-both, probe-yes, probe-least, reaches-here, reaches-on, reaches-none, climb-up}
+use Rattle.laws.proofs.Slots.{true-or-false}
 use Rattle.limits.specs.Sent.{inflow}
 use Rattle.limits.proofs.Sums.{zero-either, sum-zero, sum-add, sum-swap, sum-cond, probes-only}
 

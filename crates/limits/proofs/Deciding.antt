@@ -17,7 +17,7 @@ use Rattle.meaning.specs.Rounds.{Way, byProbe, byLevel, slotsOf}
 use Rattle.meaning.specs.Answer.{isAccepted, given, _then_, countsTest, sheetTest, planTest, planAnswer, refusedPlan}
 use Rattle.meaning.specs.Judge.{planJudged, judge}
 use Rattle.meaning.specs.Lister.{firstLine, slotLines, refusalLine, sheetListed, listing}
-use Rattle.meaning.proofs.Accepted.{then-stays, pairs-of-few}
+use Rattle.laws.proofs.Accepted.{then-stays, pairs-of-few}
 
 -- the tests of the counts, of what each asks
 abbrev countsBy : Bool → Bool → Bool → Bool → Bool → Bool → Outcome

@@ -17,11 +17,11 @@ use Rattle.meaning.specs.Rounds.{outside, moved}
 use Rattle.meaning.specs.Legal.{heldFirst}
 use Rattle.meaning.specs.Answer.{accepted, isAccepted, given, _then_, sheetTest}
 use Rattle.meaning.specs.Judge.{Judging, nextAt, sendersAt, slotTest, slotJudged, slotsJudged, planJudgedBy, planJudged, judge}
-use Rattle.meaning.proofs.Turns.{length-tab}
-use Rattle.meaning.proofs.Moving.{weigh-moved, weigh-up, length-moved}
-use Rattle.meaning.proofs.Running.{each-at, at-each}
-use Rattle.meaning.proofs.Accepted.{then-accepted, given-accepted}
-use Rattle.meaning.proofs.Grounds.{few-probes, parent-node, level-up, hopsLeft, first-left}
+use Rattle.laws.proofs.Turns.{length-tab}
+use Rattle.laws.proofs.Moving.{weigh-moved, weigh-up, length-moved}
+use Rattle.laws.proofs.Running.{each-at, at-each}
+use Rattle.laws.proofs.Accepted.{then-accepted, given-accepted}
+use Rattle.laws.proofs.Grounds.{few-probes, parent-node, level-up, hopsLeft, first-left}
 use Rattle.limits.proofs.Sums.{forEach-counts}
 use Rattle.limits.proofs.Passed.{Passed, passed}
 use Rattle.limits.proofs.Hops.{hops-limit}

@@ -17,12 +17,12 @@ use Rattle.meaning.specs.Conflict.{conflict, entry, conflictTable}
 use Rattle.meaning.specs.Rounds.{holds, outside, moved}
 use Rattle.meaning.specs.Answer.{accepted, isAccepted, given, _then_}
 use Rattle.meaning.specs.Judge.{Judging, nextAt, sendersAt, slotTest, slotJudged, slotsJudged, planJudgedBy, planJudged, judge}
-use Rattle.meaning.proofs.Turns.{some-none, sum-same, getD-tab, length-tab, same-or-other}
-use Rattle.meaning.proofs.Walk.{not-both, probe-yes}
-use Rattle.meaning.proofs.Moving.{Rising, Each, weigh, weighAll, weigh-moved, kept, length-moved}
-use Rattle.meaning.proofs.Slots.{true-or-false}
-use Rattle.meaning.proofs.Accepted.{then-accepted, given-accepted, packets-outside}
-use Rattle.meaning.proofs.Grounds.{packets-first}
+use Rattle.laws.proofs.Turns.{some-none, sum-same, getD-tab, length-tab, same-or-other}
+use Rattle.laws.proofs.Walk.{not-both, probe-yes}
+use Rattle.laws.proofs.Moving.{Rising, Each, weigh, weighAll, weigh-moved, kept, length-moved}
+use Rattle.laws.proofs.Slots.{true-or-false}
+use Rattle.laws.proofs.Accepted.{then-accepted, given-accepted, packets-outside}
+use Rattle.laws.proofs.Grounds.{packets-first}
 use Rattle.limits.proofs.Sums.{forEach-counts, sum-zero, probe-at}
 use Rattle.limits.proofs.Passed.{Apart, Passed, passed}
 use Rattle.limits.proofs.Yard as Yard

@@ -13,11 +13,11 @@ use Rattle.meaning.specs.Words.{sum, sumProbes}
 use Rattle.meaning.specs.Sheet.{probeCount, packetsOf, levelOf, hops}
 use Rattle.meaning.specs.Colour.{depth}
 use Rattle.meaning.specs.Answer.{isAccepted, sheetTest}
-use Rattle.meaning.proofs.Turns.{sum-same, sum-least, sum-constant}
-use Rattle.meaning.proofs.Walk.{probe-yes}
-use Rattle.meaning.proofs.Accepted.{accepted-yard}
-use Rattle.meaning.proofs.Grounds.{few-probes, level-most}
-use Rattle.meaning.proofs.Levels.{level-deep, depth-most}
+use Rattle.laws.proofs.Turns.{sum-same, sum-least, sum-constant}
+use Rattle.laws.proofs.Walk.{probe-yes}
+use Rattle.laws.proofs.Accepted.{accepted-yard}
+use Rattle.laws.proofs.Grounds.{few-probes, level-most}
+use Rattle.laws.proofs.Levels.{level-deep, depth-most}
 use Rattle.limits.proofs.Sums.{sum-zero, sum-swap, sum-times}
 use Rattle.limits.proofs.Line.{fromLine, line-parts, line-some, from-first}
 

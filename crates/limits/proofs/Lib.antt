@@ -16,3 +16,4 @@ pub mod Deciding
 pub mod DecidingPlan
 pub mod Attained
 pub mod Promises
+pub mod Tops

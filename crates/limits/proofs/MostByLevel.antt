@@ -19,12 +19,12 @@ use Rattle.meaning.specs.Conflict.{entry, conflictTable}
 use Rattle.meaning.specs.Colour.{coloursUsed, depth, levelColours}
 use Rattle.meaning.specs.Rounds.{Progress, Way, holds, outside, clashes, joins, joined, ownersByLevel, slotFor, rounds, byLevel, slotsOf}
 use Rattle.meaning.specs.Answer.{isAccepted, sheetTest}
-use Rattle.meaning.proofs.Turns.{forEach-one, some-none, some-where}
-use Rattle.meaning.proofs.Walk.{probe-least, probe-most, probe-yes}
-use Rattle.meaning.proofs.Slots.{Only, only-joined, and-left, and-right, never, true-or-false}
-use Rattle.meaning.proofs.Joining.{nobody-chosen, joined-long, joined-keep}
-use Rattle.meaning.proofs.Grounds.{level-least}
-use Rattle.meaning.proofs.Levels.{most-holds, table-conflicts, level-deep, depth-most, levels-proper}
+use Rattle.laws.proofs.Turns.{forEach-one, some-none, some-where}
+use Rattle.laws.proofs.Walk.{probe-least, probe-most, probe-yes}
+use Rattle.laws.proofs.Slots.{Only, only-joined, and-left, and-right, never, true-or-false}
+use Rattle.laws.proofs.Joining.{nobody-chosen, joined-long, joined-keep}
+use Rattle.laws.proofs.Grounds.{level-least}
+use Rattle.laws.proofs.Levels.{most-holds, table-conflicts, level-deep, depth-most, levels-proper}
 use Rattle.limits.specs.Sent.{inflow, sentIn, sent}
 use Rattle.limits.proofs.Sums.{zero-either, sum-zero, probe-at}
 use Rattle.limits.proofs.Served.{served, inflow-least, inflow-part}

@@ -16,10 +16,10 @@ use Rattle.meaning.specs.Conflict.{entry, conflictTable}
 use Rattle.meaning.specs.Colour.{coloursUsed, probeColours}
 use Rattle.meaning.specs.Rounds.{Progress, Way, holds, ownersByProbe, rounds, byProbe, slotsOf}
 use Rattle.meaning.specs.Answer.{isAccepted, sheetTest}
-use Rattle.meaning.proofs.Turns.{some-none, getD-tab, length-tab}
-use Rattle.meaning.proofs.Walk.{probe-least, probe-most, probe-yes}
-use Rattle.meaning.proofs.Slots.{Only, and-right, never}
-use Rattle.meaning.proofs.Levels.{most-holds, probes-proper}
+use Rattle.laws.proofs.Turns.{some-none, getD-tab, length-tab}
+use Rattle.laws.proofs.Walk.{probe-least, probe-most, probe-yes}
+use Rattle.laws.proofs.Slots.{Only, and-right, never}
+use Rattle.laws.proofs.Levels.{most-holds, probes-proper}
 use Rattle.limits.specs.Sent.{inflow, sent}
 use Rattle.limits.proofs.Sums.{probe-at}
 use Rattle.limits.proofs.Served.{served, inflow-least}

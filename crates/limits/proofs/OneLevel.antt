@@ -15,10 +15,10 @@ use Rattle.meaning.specs.Sheet.{probeCount, levelOf}
 use Rattle.meaning.specs.Conflict.{entry, tableOf, conflictTable}
 use Rattle.meaning.specs.Colour.{levelsConflict, levels, levelColours}
 use Rattle.meaning.specs.Answer.{isAccepted, sheetTest}
-use Rattle.meaning.proofs.Turns.{some-found, getD-tab, same-or-other}
-use Rattle.meaning.proofs.Walk.{probe-yes, probe-most}
-use Rattle.meaning.proofs.Grounds.{few-probes, level-most}
-use Rattle.meaning.proofs.Levels.{table-conflicts, levels-proper}
+use Rattle.laws.proofs.Turns.{some-found, getD-tab, same-or-other}
+use Rattle.laws.proofs.Walk.{probe-yes, probe-most}
+use Rattle.laws.proofs.Grounds.{few-probes, level-most}
+use Rattle.laws.proofs.Levels.{table-conflicts, levels-proper}
 use Rattle.limits.proofs.Sums.{probe-at}
 
 -- a probe of each of two levels that conflict

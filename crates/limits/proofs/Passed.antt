@@ -14,11 +14,11 @@ use Rattle.meaning.specs.Yard.{isProbe}
 use Rattle.meaning.specs.Rounds.{holds}
 use Rattle.meaning.specs.Answer.{isAccepted}
 use Rattle.meaning.specs.Judge.{slotTest}
-use Rattle.meaning.proofs.Turns.{some-none}
-use Rattle.meaning.proofs.Walk.{probe-least, probe-most}
-use Rattle.meaning.proofs.Moving.{Rising, Each, Sender}
-use Rattle.meaning.proofs.Running.{at-each}
-use Rattle.meaning.proofs.Accepted.{then-accepted, given-accepted}
+use Rattle.laws.proofs.Turns.{some-none}
+use Rattle.laws.proofs.Walk.{probe-least, probe-most}
+use Rattle.laws.proofs.Moving.{Rising, Each, Sender}
+use Rattle.laws.proofs.Running.{at-each}
+use Rattle.laws.proofs.Accepted.{then-accepted, given-accepted}
 
 pub rising-read : (lo : ℕ) (l : List ℕ) → (0 < length l → lo < getD l 0 0) → ((i : ℕ) → suc i < length l → getD l i 0 < getD l (suc i) 0) → Rising lo l
 unfolding Rising

@@ -3,27 +3,34 @@
 -- Each promise is proved by citing the file that does the work. Assumes nothing.
 use mathlib.Core.Path.{_≡_, refl, sym, ap, _∙_}
 use mathlib.Core.Bool.{Bool, true, false, cond}
-use mathlib.Core.List.{List}
-use Prim.Native.Nat.{ℕ, _-_, _*_, _≤_, _<_}
+use mathlib.Core.List.{List, []}
+use Prim.Native.Nat.{ℕ, _+_, _-_, _*_, _≤_, _<_}
+use lib.Dec.{eqb}
 use lib.ListN.{length, getD, take, drop}
 use lib.Seq.{take-at}
 use Rattle.meaning.specs.declared.Outcome.{Outcome}
 use Rattle.meaning.specs.declared.Planned.{Planned}
-use Rattle.meaning.specs.Sheet.{heaviest, allPackets}
+use Rattle.meaning.specs.Words.{some, someProbe, mostProbes}
+use Rattle.meaning.specs.Yard.{branchPackets}
+use Rattle.meaning.specs.Sheet.{probeCount, parentOf, packetsOf, heaviest, allPackets}
 use Rattle.meaning.specs.Plan.{planBytes, front}
+use Rattle.meaning.specs.Colour.{coloursUsed, probeColours, depth, levelColours}
 use Rattle.meaning.specs.Rounds.{Way, byProbe, byLevel, slotsOf}
 use Rattle.meaning.specs.Answer.{accepted, isAccepted, sheetTest, planTest, planAnswer, planBuffer, refusedPlan}
 use Rattle.meaning.specs.Judge.{judge}
 use Rattle.meaning.specs.Lister.{sheetListed, listing}
 use Rattle.meaning.specs.Legal.{Good}
-use Rattle.meaning.proofs.Accepted.{then-accepted}
-use Rattle.meaning.proofs.Exact.{passed-good, good-passed}
-use Rattle.meaning.proofs.Own.{by-probe-passed, by-level-passed}
+use Rattle.laws.proofs.Accepted.{then-accepted}
+use Rattle.laws.proofs.Exact.{passed-good, good-passed}
+use Rattle.laws.proofs.NoEmpty.{no-empty-slot}
+use Rattle.laws.proofs.Own.{by-probe-passed, by-level-passed}
+use Rattle.laws.proofs.Used.{probe-colours-used, level-colours-used}
 use Rattle.limits.proofs.Deciding.{by-probe-decided, by-level-decided, verdict-decided, text-decided}
 use Rattle.limits.proofs.DecidingPlan.{plan-decided}
 use Rattle.limits.proofs.Fewest.{slots-least}
 use Rattle.limits.proofs.MostByProbe.{by-probe-most}
 use Rattle.limits.proofs.MostByLevel.{by-level-most}
+use Rattle.limits.proofs.Tops.{heaviest-at-top}
 
 -- a planner's answer and the buffer afterwards, where it has planned: the plan is written, and the answer counts it
 pub record Plans (s : List ℕ) (way : Way) (buffer : List ℕ) : Type 0 where
@@ -137,6 +144,24 @@ by-level-slots s buffer ok =
 -- Demand 3: no plan that the judge passes, from anyone, has fewer slots than packets
 pub no-fewer-slots : (s plan : List ℕ) → isAccepted (judge s plan .outcome) ≡ true → allPackets s ≤ judge s plan .slots
 no-fewer-slots = slots-least
+
+-- "Colours": M is the number of colours: each from 1 to M is some probe's, by level some level's
+pub every-probe-colour : (s : List ℕ) → isAccepted (sheetTest s) ≡ true → (c : ℕ) → 1 ≤ c → c ≤ coloursUsed (probeColours s)
+    → someProbe (probeCount s) (λ v. eqb (getD (probeColours s) v 0) c) ≡ true
+every-probe-colour = probe-colours-used
+
+pub every-level-colour : (s : List ℕ) → isAccepted (sheetTest s) ≡ true → (c : ℕ) → 1 ≤ c → c ≤ coloursUsed (levelColours s)
+    → some (depth s) (λ k. eqb (getD (levelColours s) (k + 1) 0) c) ≡ true
+every-level-colour = level-colours-used
+
+-- "The plan in bytes": ours have no slot without a sender
+pub no-slot-empty : (s : List ℕ) (way : Way) (k : ℕ) → k < length (slotsOf s way) → 0 < length (getD (slotsOf s way) k [])
+no-slot-empty = no-empty-slot
+
+-- "The lister": the heaviest branch is one next to the gateway
+pub heaviest-branch : (s : List ℕ) → isAccepted (sheetTest s) ≡ true
+    → heaviest s ≡ mostProbes (probeCount s) (λ v. cond (eqb (parentOf s v) 1) (branchPackets (probeCount s) (parentOf s) (packetsOf s) v) 0)
+heaviest-branch = heaviest-at-top
 
 -- "The lister": at most 4,162 bytes are read, which decide every answer: the lister's text, a planner's answer, a verdict
 pub bytes-decide-text : (s : List ℕ) → listing s ≡ sheetListed s

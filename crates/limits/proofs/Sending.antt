@@ -13,9 +13,9 @@ use borrow.Author.Tests.{eq-eqb, ne-eqb}
 use Rattle.meaning.specs.Words.{sum, sumProbes, places, probesThat}
 use Rattle.meaning.specs.Yard.{isProbe}
 use Rattle.meaning.specs.Rounds.{Progress, moved, recorded}
-use Rattle.meaning.proofs.Turns.{below-or-last, sum-same, same-or-other}
-use Rattle.meaning.proofs.Walk.{probe-yes}
-use Rattle.meaning.proofs.Moving.{Rising, Each, Sender, weigh, weighAll, weigh-moved}
+use Rattle.laws.proofs.Turns.{below-or-last, sum-same, same-or-other}
+use Rattle.laws.proofs.Walk.{probe-yes}
+use Rattle.laws.proofs.Moving.{Rising, Each, Sender, weigh, weighAll, weigh-moved}
 use Rattle.limits.specs.Sent.{inflow, sentIn, sent}
 use Rattle.limits.proofs.Sums.{zero-either, sum-add, sum-only, sum-zero, sum-swap, probes-only}
 

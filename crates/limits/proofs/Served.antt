@@ -9,9 +9,9 @@ use lib.Dec.{eqb, ltb}
 use borrow.Author.Tests.{eqb-true, ltb-true, ltb-false}
 use Rattle.meaning.specs.Words.{some}
 use Rattle.meaning.specs.Yard.{isProbe}
-use Rattle.meaning.proofs.Turns.{in-sum, some-where, some-none, sum-least}
-use Rattle.meaning.proofs.Walk.{probe-yes}
-use Rattle.meaning.proofs.Slots.{and-left, and-right, true-or-false}
+use Rattle.laws.proofs.Turns.{in-sum, some-where, some-none, sum-least}
+use Rattle.laws.proofs.Walk.{probe-yes}
+use Rattle.laws.proofs.Slots.{and-left, and-right, true-or-false}
 use Rattle.limits.specs.Sent.{inflow}
 
 -- more from each child is more from all

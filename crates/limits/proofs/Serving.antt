@@ -13,11 +13,11 @@ use borrow.Author.Tests.{ltb-true, le-ltb}
 use Rattle.meaning.specs.Words.{forEach, some, someProbe, sumProbes, places}
 use Rattle.meaning.specs.Yard.{isProbe}
 use Rattle.meaning.specs.Rounds.{Progress, Way, holds, outside, joined, senders, slotOf, slotFor, moved, recorded, round, rounds, before}
-use Rattle.meaning.proofs.Turns.{in-sum, below-or-last, forEach-keeps, forEach-stays, some-found, none-some, sum-same, getD-tab, length-tab, same-or-other}
-use Rattle.meaning.proofs.Walk.{probe-yes, probe-most}
-use Rattle.meaning.proofs.Moving.{Each, Sender, length-moved}
-use Rattle.meaning.proofs.Slots.{Only, each-slot, each-so, rising-slot}
-use Rattle.meaning.proofs.Joining.{joined-keep}
+use Rattle.laws.proofs.Turns.{in-sum, below-or-last, forEach-keeps, forEach-stays, some-found, none-some, sum-same, getD-tab, length-tab, same-or-other}
+use Rattle.laws.proofs.Walk.{probe-yes, probe-most}
+use Rattle.laws.proofs.Moving.{Each, Sender, length-moved}
+use Rattle.laws.proofs.Slots.{Only, each-slot, each-so, rising-slot}
+use Rattle.laws.proofs.Joining.{joined-keep}
 use Rattle.limits.specs.Sent.{inflow, sentIn, sent}
 use Rattle.limits.proofs.Sums.{forEach-counts, sum-add, probe-at}
 use Rattle.limits.proofs.Sending.{inflow-add, inflow-same, inflow-all, slot-balance, recorded-sent, recorded-held, recorded-few, sender-counts, inflow-none}

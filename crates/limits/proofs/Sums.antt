@@ -8,8 +8,8 @@ use native.Mathlib.Nat.{not-suc-le-zero, mul-zero, mul-add}
 use native.Mathlib.Omega.{arith}
 use Rattle.meaning.specs.Words.{forEach, sum, sumProbes}
 use Rattle.meaning.specs.Yard.{isProbe}
-use Rattle.meaning.proofs.Turns.{below-or-last}
-use Rattle.meaning.proofs.Walk.{probe-least, probe-most}
+use Rattle.laws.proofs.Turns.{below-or-last}
+use Rattle.laws.proofs.Walk.{probe-least, probe-most}
 
 -- what each turn carries on, with the number of turns
 pub forEach-counts : {A : Type 0} (P : ℕ → A → Type 0) (n : ℕ) (step : ℕ → A → A) (start : A) → P 0 start

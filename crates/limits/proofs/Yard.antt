@@ -9,10 +9,10 @@ use Rattle.meaning.specs.Yard.{isProbe}
 use Rattle.meaning.specs.Sheet.{probeCount, parentOf, packetsOf, pairRecords, pairCount, interfere}
 use Rattle.meaning.specs.Conflict.{conflict, entry, conflictTable}
 use Rattle.meaning.specs.Answer.{isAccepted, sheetTest}
-use Rattle.meaning.proofs.Walk.{probe-below}
-use Rattle.meaning.proofs.Conflicting.{conflicts, siblings-conflict, interfere-sym}
-use Rattle.meaning.proofs.Accepted.{AcceptedYard, accepted-yard, parent-outside}
-use Rattle.meaning.proofs.Exact.{table-clash}
+use Rattle.laws.proofs.Walk.{probe-below}
+use Rattle.laws.proofs.Conflicting.{conflicts, siblings-conflict, interfere-sym}
+use Rattle.laws.proofs.Accepted.{AcceptedYard, accepted-yard, parent-outside}
+use Rattle.laws.proofs.Exact.{table-clash}
 use Rattle.limits.proofs.Branch.{Rooted}
 
 module _ (s : List ℕ) (ok : isAccepted (sheetTest s) ≡ true) where

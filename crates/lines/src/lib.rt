@@ -7,6 +7,8 @@ ghost use lib.ListN.{length};
 ghost use Rattle.meaning.specs.Lister.{decimal, said, sendersText, refusalLine, numbersLine, slotLine};
 ghost use Rattle.lines.specs.Line.{lineLength, lineIn, Put};
 use meaning::Outcome;
+use meaning::Probe;
+use meaning::Slot;
 
 // Puts bytes at a place; says where they end.
 fn put_text(bytes: &[u8], out: &mut [u8], at: usize) -> usize
@@ -95,17 +97,18 @@ pub fn first_line(colours: u8, slots: u16, packets: u16, heaviest: u16, out: &mu
 }
 
 // Whether a slot's line has room.
-fn slot_fits(number: u16, senders: &[u8], room: usize) -> bool
-    ensures { λ r. ⌜ r ≡ leb (length (slotLine number (now (senders .entry)))) room ⌝ }
+fn slot_fits(number: Slot, senders: &[u8], room: usize) -> bool
+    ensures { λ r. ⌜ r ≡ leb (length (slotLine (number .0) (now (senders .entry)))) room ⌝ }
 {
-    let around = 2 + digits(5, number) as usize;
+    let n = number.0;
+    let around = 2 + digits(5, n) as usize;
     if room < around {
         return false;
     }
     let mut left = room - around;
     let mut i = 0;
     while i < senders.len() {
-        let need = 1 + digits(5, meaning::number_at(senders, i) as u16) as usize;
+        let need = 1 + digits(5, laws::number_at(senders, i) as u16) as usize;
         if left < need {
             return false;
         }
@@ -116,11 +119,12 @@ fn slot_fits(number: u16, senders: &[u8], room: usize) -> bool
 }
 
 // Puts a sender behind a space; says where it ends.
-fn put_sender(v: u8, out: &mut [u8], at: usize) -> usize
-    requires { ⌜ at + length (said "" v) ≤ length (now out) ⌝ }
-    ensures { λ r. ⌜ Put (now (out .entry)) at (said "" v) (now (out .exit)) r ⌝ }
+fn put_sender(v: Probe, out: &mut [u8], at: usize) -> usize
+    requires { ⌜ at + length (said "" (v .0)) ≤ length (now out) ⌝ }
+    ensures { λ r. ⌜ Put (now (out .entry)) at (said "" (v .0)) (now (out .exit)) r ⌝ }
 {
-    put_said(b" ", v as u16, out, at)
+    let n = v.0 as u16;
+    put_said(b" ", n, out, at)
 }
 
 // Puts the senders of a slot at a place, each after a space; says where they end.
@@ -131,21 +135,22 @@ fn put_senders(senders: &[u8], out: &mut [u8], at: usize) -> usize
     let mut end = at;
     let mut i = 0;
     while i < senders.len() {
-        end = put_sender(meaning::number_at(senders, i), out, end);
+        end = put_sender(Probe(laws::number_at(senders, i)), out, end);
         i += 1;
     }
     end
 }
 
 // The line of one slot: its number and its senders.
-pub fn slot_line(number: u16, senders: &[u8], out: &mut [u8]) -> usize
-    ensures answer { λ r. ⌜ r ≡ lineLength (now (out .entry)) (slotLine number (now (senders .entry))) ⌝ }
-    ensures buffer { λ _. ⌜ now (out .exit) ≡ lineIn (now (out .entry)) (slotLine number (now (senders .entry))) ⌝ }
+pub fn slot_line(number: Slot, senders: &[u8], out: &mut [u8]) -> usize
+    ensures answer { λ r. ⌜ r ≡ lineLength (now (out .entry)) (slotLine (number .0) (now (senders .entry))) ⌝ }
+    ensures buffer { λ _. ⌜ now (out .exit) ≡ lineIn (now (out .entry)) (slotLine (number .0) (now (senders .entry))) ⌝ }
 {
     if !slot_fits(number, senders, out.len()) {
         return 0;
     }
-    let at = put_digits(5, number, out, 0);
+    let n = number.0;
+    let at = put_digits(5, n, out, 0);
     let colon = put_text(b":", out, at);
     let end = put_senders(senders, out, colon);
     put_text(b"\n", out, end)

@@ -18,8 +18,8 @@ use Rattle.meaning.specs.Rounds.{byProbe, slotsOf}
 use Rattle.meaning.specs.Answer.{isAccepted, sheetTest, planTest, planAnswer, planBuffer, refusedPlan}
 use Rattle.meaning.specs.Legal.{heldFirst, Runs}
 use Rattle.meaning.specs.Lister.{firstLine, slotLines, refusalLine, sheetListed, numbersLine}
-use Rattle.meaning.proofs.Accepted.{then-accepted, given-accepted}
-use Rattle.meaning.proofs.Own.{by-probe-plan}
+use Rattle.laws.proofs.Accepted.{then-accepted, given-accepted}
+use Rattle.laws.proofs.Own.{by-probe-plan}
 use Rattle.lines.specs.Line.{lineLength, lineIn}
 use Rattle.plan.proofs.Writing.{length-front}
 use Rattle.plan.proofs.Going.{part-from}

@@ -9,7 +9,7 @@ use Rattle.meaning.specs.Words.{sumProbes, tab, places}
 use Rattle.meaning.specs.Yard.{heaviestOf}
 use Rattle.meaning.specs.Sheet.{probeCount, packetsOf, allPackets, heaviest}
 use Rattle.meaning.specs.Answer.{isAccepted, sheetTest}
-use Rattle.meaning.proofs.Grounds.{parent-read, packets-read}
+use Rattle.laws.proofs.Grounds.{parent-read, packets-read}
 use Rattle.meaning.specs.Lister.{numbersLine}
 use Rattle.lines.specs.Line.{lineLength, lineIn}
 use Rattle.sheet.specs.declared.Yard.{Yard}

@@ -13,10 +13,10 @@ use Rattle.meaning.specs.Rounds.{moved}
 use Rattle.meaning.specs.Answer.{isAccepted, sheetTest}
 use Rattle.meaning.specs.Legal.{Runs}
 use Rattle.meaning.specs.Lister.{text, decimal, said, sendersText, slotLines, numbersLine, slotLine}
-use Rattle.meaning.proofs.Walk.{probe-most}
-use Rattle.meaning.proofs.Moving.{Each}
-use Rattle.meaning.proofs.Grounds.{few-probes}
-use Rattle.meaning.proofs.Running.{at-each}
+use Rattle.laws.proofs.Walk.{probe-most}
+use Rattle.laws.proofs.Moving.{Each}
+use Rattle.laws.proofs.Grounds.{few-probes}
+use Rattle.laws.proofs.Running.{at-each}
 use Rattle.lines.proofs.Decimal.{decimal-last, length-more}
 use Rattle.lines.proofs.Lined.{sender-length, refusal-length, numbers-length, slot-length, slot-line}
 

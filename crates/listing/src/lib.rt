@@ -10,6 +10,7 @@ ghost use Rattle.meaning.specs.Judge.{sendersAt};
 ghost use Rattle.meaning.specs.Lister.{slotLines, numbersLine};
 ghost use Rattle.lines.specs.Line.{lineLength, lineIn};
 ghost use Rattle.listing.specs.Listed.{listedLength, listedIn, slotsFrom};
+use meaning::Slot;
 
 // The senders of the slot at a place of a plan; none past its end.
 fn senders_at(plan: &[u8], at: usize) -> &[u8]
@@ -38,8 +39,8 @@ fn slot_lines(plan: &[u8], slots: u16, out: &mut [u8]) -> usize
     let mut k: u16 = 0;
     while k < slots {
         let senders = senders_at(plan, place);
-        at += lines::slot_line(k + 1, senders, &mut out[at..]);
-        place += 1 + meaning::number_at(plan, place) as usize;
+        at += lines::slot_line(Slot(k + 1), senders, &mut out[at..]);
+        place += 1 + laws::number_at(plan, place) as usize;
         k += 1;
     }
     at

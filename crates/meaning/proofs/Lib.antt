@@ -1,16 +1,2 @@
--- Facts about the definitions that belong to no one function.
-pub mod Turns
-pub mod Walk
-pub mod Moving
-pub mod Slots
-pub mod Colouring
-pub mod Conflicting
-pub mod Accepted
-pub mod Grounds
-pub mod Running
-pub mod Sending
-pub mod Exact
-pub mod Joining
-pub mod Levels
-pub mod Own
+-- The definitions, computed.
 pub mod Yards

@@ -1,24 +1,25 @@
--- Document 01, "Yards to try": the yards that are proved, as rows of one table under one claim, computed from the definitions.
--- Assumes nothing.
+-- Document 01, "Yards to try": the yards that are proved, as rows of one table under one claim, computed from the definitions. For each
+-- number there is its least case and the case beside it, for each two tests an input to which both apply. What takes few steps stands first: a wrong
+-- definition is then refused soon, and one claim has no more than fifty million steps.
 use mathlib.Core.Bool.{Bool, true, false, cond, _&&_}
 use mathlib.Core.List.{List, [], _∷_, _++_}
-use Prim.Native.Nat.{ℕ, _+_, _-_, _*_}
-use Prim.Native.String.{String}
+use Prim.Native.Nat.{ℕ, zero, suc, _+_, _-_, _*_}
+use Prim.Native.String.{String, [] as end, _∷_ as _and_}
 use lib.Dec.{T, eqb, ltb}
 use lib.ListN.{take, drop, replicate}
 use Rattle.meaning.specs.declared.Outcome.{Outcome}
 use Rattle.meaning.specs.declared.Planned.{Planned}
 use Rattle.meaning.specs.declared.Verdict.{Verdict}
-use Rattle.meaning.specs.Words.{forEach, some, sum, most, tab, probesThat}
-use Rattle.meaning.specs.Yard.{reaches, climb}
-use Rattle.meaning.specs.Sheet.{probeCount, parentOf, packetsOf, levelOf, hops, allPackets, heaviest, interfere}
-use Rattle.meaning.specs.Plan.{slotBytes, roomFor}
-use Rattle.meaning.specs.Conflict.{disturb, conflict, conflictTable}
+use Rattle.meaning.specs.Words.{forEach, some, sum, most, tab, places, probesThat}
+use Rattle.meaning.specs.Yard.{reaches, climb, climbed}
+use Rattle.meaning.specs.Sheet.{twoAt, probeCount, parentOf, packetsOf, levelOf, hops, allPackets, heaviest, interfere}
+use Rattle.meaning.specs.Plan.{twoBytes, slotBytes, roomFor}
+use Rattle.meaning.specs.Conflict.{disturb, conflict, tableOf, entry, conflictTable}
 use Rattle.meaning.specs.Colour.{smallestFree, nextOf, colouredBy, probeColours, levelsConflict, levels, depth, levelColours}
 use Rattle.meaning.specs.Rounds.{Way, joined, ownersByProbe, ownersByLevel, slotOf, moved, recorded, round, rounds, byProbe, byLevel, slotsOf}
-use Rattle.meaning.specs.Answer.{_then_, inOrder, probeTest, walkTest, pairTest, countsTest, sheetTest, planTest, planAnswer, planBuffer}
-use Rattle.meaning.specs.Judge.{slotTest, slotJudged, slotsJudged, planJudgedBy, planJudged, judge, choice, handedBack}
-use Rattle.meaning.specs.Lister.{text, decimal, numbersLine, sendersText, slotLine, slotLines, sheetListed, listing}
+use Rattle.meaning.specs.Answer.{accepted, _then_, inOrder, probeTest, walkTest, pairTest, countsTest, sheetTest, planTest, planAnswer, planBuffer}
+use Rattle.meaning.specs.Judge.{Judging, slotTest, slotJudged, slotsJudged, planJudgedBy, planJudged, judge, choice, handedBack}
+use Rattle.meaning.specs.Lister.{text, decimal, numbersLine, sendersText, refusalLine, slotLine, slotLines, sheetListed, listing}
 
 -- a sheet, a plan or a buffer as document 01 writes it: two digits a byte, one space between
 digit : ℕ → ℕ
@@ -33,17 +34,37 @@ pairs (a ∷ b ∷ c ∷ rest) = (16 * digit a + digit b) ∷ pairs rest
 hex : String → List ℕ
 hex written = pairs (text written)
 
--- what a row says of the sheet that it begins with. A planner's row gives the length of the buffer lent, whose bytes are all `ee`; then number,
--- place, colours, slots and bytes written; then the whole buffer afterwards. A judge's row gives the plan; then number, place and slots
+-- a text, so many times, in front of another
+many : ℕ → String → String → String
+many zero piece rest = rest
+many (suc k) piece rest = before piece (many k piece rest)
+  where
+    before : String → String → String
+    before end rest = rest
+    before (letter and more) rest = letter and before more rest
+
+-- what a row says of the sheet that it begins with. `tested` gives number and place. `conflicts` gives for each probe those that it conflicts
+-- with, `level-conflicts` the same of levels. A planner's row gives the length of the buffer lent, whose bytes are all `ee`; then number, place, colours, slots and bytes written; then
+-- the whole buffer afterwards. A judge's row gives the plan; then number, place and slots; `holding` gives it too, and what the nodes from 0
+-- on hold after its slots. A count's bytes and a number's and a slot's text stand by themselves
 pub data Row : Type 0 where
+  tested : String → ℕ → ℕ → Row
   room : String → ℕ → Row
+  conflicts : String → List (List ℕ) → Row
   probe-colours : String → List ℕ → Row
+  level-conflicts : String → List (List ℕ) → Row
   level-colours : String → List ℕ → Row
   plan-by-probe : String → ℕ → List ℕ → String → Row
   plan-by-level : String → ℕ → List ℕ → String → Row
   judged : String → String → List ℕ → Row
+  holding : String → String → List ℕ → Row
   chosen : String → String → String → String → Row
   listed : String → String → Row
+  count-bytes : ℕ → String → Row
+  number-text : ℕ → String → Row
+  refusal-text : ℕ → ℕ → String → Row
+  numbers-text : ℕ → ℕ → ℕ → ℕ → String → Row
+  slot-text : ℕ → List ℕ → String → Row
 
 planner : List ℕ → Way → ℕ → List ℕ
 planner s way lent = numbers (planAnswer s way lent) ++ planBuffer s way (replicate lent 0xee)
@@ -60,16 +81,53 @@ same [] (y ∷ ys) = false
 same (x ∷ xs) [] = false
 same (x ∷ xs) (y ∷ ys) = eqb x y && same xs ys
 
+-- the places of a row's flags that are up, where the row begins at place k
+up : ℕ → List Bool → List ℕ
+up k [] = []
+up k (true ∷ flags) = k ∷ up (suc k) flags
+up k (false ∷ flags) = up (suc k) flags
+
+-- row by row, a table has just these flags up, and none in the rows behind them
+says : List (List Bool) → List (List ℕ) → Bool
+says [] [] = true
+says [] (places ∷ more) = false
+says (row ∷ rows) [] = same (up 0 row) [] && says rows []
+says (row ∷ rows) (places ∷ more) = same (up 0 row) places && says rows more
+
 -- the definitions answer what the row says
 pub true-row : Row → Bool
+true-row (tested sheet number place) = gives (sheetTest (hex sheet))
+  where
+    gives : Outcome → Bool
+    gives outcome = eqb (outcome .number) number && eqb (outcome .place) place
 true-row (room sheet bytes) = eqb (roomFor (hops (hex sheet))) bytes
+true-row (conflicts sheet rows) = says (conflictTable (hex sheet)) ([] ∷ [] ∷ rows)
 true-row (probe-colours sheet colours) = same (take (probeCount (hex sheet)) (drop 2 (probeColours (hex sheet)))) colours
+true-row (level-conflicts sheet rows) = says (tableOf (levelsConflict (probeCount s) (levelOf s) (entry (conflictTable s)))) ([] ∷ rows)
+  where
+    s : List ℕ
+    s = hex sheet
 true-row (level-colours sheet colours) = same (take (depth (hex sheet)) (drop 1 (levelColours (hex sheet)))) colours
 true-row (plan-by-probe sheet lent numbers after) = same (planner (hex sheet) (byProbe (hex sheet)) lent) (numbers ++ hex after)
 true-row (plan-by-level sheet lent numbers after) = same (planner (hex sheet) (byLevel (hex sheet)) lent) (numbers ++ hex after)
 true-row (judged sheet plan numbers) = same (verdict (judge (hex sheet) (hex plan))) numbers
+true-row (holding sheet plan packets) = same (take (probeCount s + 2) (slotsJudged (probeCount s) (parentOf s) (entry (conflictTable s)) bytes (twoAt bytes 0) start .held)) packets
+  where
+    s : List ℕ
+    s = hex sheet
+
+    bytes : List ℕ
+    bytes = hex plan
+
+    start : Judging
+    start = record { outcome = accepted; at = 2; held = tab places (packetsOf s) }
 true-row (chosen sheet a b handed) = same (handedBack (choice (hex sheet) (hex a) (hex b)) (hex a) (hex b)) (hex handed)
 true-row (listed sheet printed) = same (listing (hex sheet)) (text printed)
+true-row (count-bytes number written) = same (twoBytes number) (hex written)
+true-row (number-text number printed) = same (decimal 5 number) (text printed)
+true-row (refusal-text number place printed) = same (refusalLine (record { number = number; place = place })) (text printed)
+true-row (numbers-text colours slots packets most printed) = same (numbersLine colours slots packets most) (text printed)
+true-row (slot-text number slot printed) = same (slotLine number slot) (text printed)
 
 pub all-true : List Row → Bool
 all-true [] = true
@@ -84,66 +142,232 @@ A-with-a-pair = "03 01 01 02 01 01 01 00 01 02 04"
 chain : String
 chain = "03 01 01 02 01 03 01 00 00"
 
+-- the same with the numbers turned round, 2 the farthest
+turned : String
+turned = "03 03 01 04 01 01 01 00 00"
+
 ring : String
 ring = "02 03 01 02 01 00 00"
 
+-- levels one below the other, so that the middle one has the most neighbours
+five : String
+five = "05 01 01 02 01 03 01 04 01 05 01 00 00"
+
+-- three arms of two probes: 5 under 2, 6 under 3, 7 under 4; with pairs as they follow
+arms : String → String
+arms pairs = many 1 "06 01 01 01 01 01 01 02 01 03 01 04 01 " pairs
+
+-- branches of several levels and packets, and the pair 3, 5
+mixed : String
+mixed = "06 01 02 02 03 02 04 01 01 03 02 05 01 00 01 03 05"
+
+-- p probes next to the gateway, one packet each, and what follows
+star : ℕ → String → String → String
+star p count rest = many 1 count (many p "01 01 " rest)
+
 pub yards : List Row
 yards =
+    -- the sheet's counts: 1 where something is missing, 2 where p or q is too large, 3 where a byte follows
+    tested "" 1 0
+    ∷ tested "00" 1 0
+    ∷ tested "00 00" 1 0
+    ∷ tested "00 01" 1 0
+    ∷ tested "00 00 00" 0 0
+    ∷ tested "00 00 00 00" 3 0
+    ∷ tested "01 01 01 00" 1 0
+    ∷ tested "01 01 01 00 00" 0 0
+    ∷ tested "01 01 01 00 01 01" 1 0
+    ∷ tested "01 01 01 00 01 01 02" 0 0
+    ∷ tested "01 01 01 00 01 01 02 00" 3 0
+    ∷ tested "01 01 01 00 02" 2 0
+    ∷ tested "40" 2 0
+    ∷ tested (star 63 "3f " "00 00") 0 0
+    ∷ tested (star 64 "40 " "00 00") 2 0
+    ∷ tested (star 63 "3f " "07 e0") 1 0
+    ∷ tested (star 63 "3f " "07 e1") 2 0
+    -- 2 comes before 1, and 3 before 4
+    ∷ tested "01 01 01 ff ff" 2 0
+    ∷ tested "01 00 01 00 00 00" 3 0
+    -- 4: the parent is 0, above n, or the probe itself; 4 before 5 in one probe, and both before the next probe
+    ∷ tested "01 00 01 00 00" 4 2
+    ∷ tested "01 03 01 00 00" 4 2
+    ∷ tested "01 02 01 00 00" 4 2
+    ∷ tested "02 03 01 01 01 00 00" 0 0
+    ∷ tested "02 01 01 04 01 00 00" 4 3
+    ∷ tested "02 01 01 03 01 00 00" 4 3
+    ∷ tested "01 00 00 00 00" 4 2
+    ∷ tested "02 01 10 00 01 00 00" 5 2
+    -- 5: packets 0 or above 15
+    ∷ tested "01 01 00 00 00" 5 2
+    ∷ tested "01 01 0f 00 00" 0 0
+    ∷ tested "01 01 10 00 00" 5 2
+    ∷ tested "02 01 01 01 00 00 00" 5 3
+    -- 6: the first probe that never arrives, behind 4 and 5 of all probes; a walk may take p hops
+    ∷ tested ring 6 2
+    ∷ tested "03 01 01 04 01 03 01 00 00" 6 3
+    ∷ tested "03 03 01 02 01 01 00 00 00" 5 4
+    ∷ tested chain 0 0
+    ∷ tested turned 0 0
+    -- 6 before 7; 7: a is 0, a ≥ b, or b above n; the place is the pair's
+    ∷ tested "02 03 01 02 01 00 01 00 01" 6 2
+    ∷ tested "01 01 01 00 01 00 02" 7 1
+    ∷ tested "01 01 01 00 01 02 02" 7 1
+    ∷ tested "01 01 01 00 01 02 01" 7 1
+    ∷ tested "01 01 01 00 01 01 03" 7 1
+    ∷ tested "02 01 01 01 01 00 02 01 02 02 02" 7 2
+    -- 8: not above the one before, by a and then by b; 7 before 8 in one pair, and both before the next pair
+    ∷ tested "02 01 01 01 01 00 03 01 02 01 03 02 03" 0 0
+    ∷ tested "03 01 01 01 01 01 01 00 02 01 04 02 03" 0 0
+    ∷ tested "02 01 01 01 01 00 02 01 02 01 02" 8 2
+    ∷ tested "02 01 01 01 01 00 02 01 03 01 02" 8 2
+    ∷ tested "02 01 01 01 01 00 02 02 03 01 03" 8 2
+    ∷ tested "03 01 01 01 01 01 01 00 02 02 03 01 04" 8 2
+    ∷ tested "03 01 01 01 01 01 01 00 03 01 02 01 04 01 03" 8 3
+    ∷ tested "02 01 01 01 01 00 02 01 03 01 01" 7 2
+    ∷ tested "02 01 01 01 01 00 03 01 03 01 02 00 01" 8 2
+    -- conflicts: parent and child, children of one parent, a probe and its grandchild, whichever has the smaller number
+    ∷ conflicts A ((3 ∷ 4 ∷ []) ∷ (2 ∷ []) ∷ (2 ∷ []) ∷ [])
+    ∷ conflicts chain ((3 ∷ 4 ∷ []) ∷ (2 ∷ 4 ∷ []) ∷ (2 ∷ 3 ∷ []) ∷ [])
+    ∷ conflicts turned ((3 ∷ 4 ∷ []) ∷ (2 ∷ 4 ∷ []) ∷ (2 ∷ 3 ∷ []) ∷ [])
+    ∷ conflicts five ((3 ∷ 4 ∷ []) ∷ (2 ∷ 4 ∷ 5 ∷ []) ∷ (2 ∷ 3 ∷ 5 ∷ 6 ∷ []) ∷ (3 ∷ 4 ∷ 6 ∷ []) ∷ (4 ∷ 5 ∷ []) ∷ [])
+    -- a pair with the other's parent, either way round; a pair of two that are no parents adds nothing, and neither does one that is a link
+    ∷ conflicts A-with-a-pair ((3 ∷ 4 ∷ []) ∷ (2 ∷ 4 ∷ []) ∷ (2 ∷ 3 ∷ []) ∷ [])
+    ∷ conflicts "03 01 01 01 01 02 01 00 01 02 03" ((3 ∷ 4 ∷ []) ∷ (2 ∷ 4 ∷ []) ∷ (2 ∷ 3 ∷ []) ∷ [])
+    ∷ conflicts "03 01 01 01 01 03 01 00 01 02 03" ((3 ∷ 4 ∷ []) ∷ (2 ∷ 4 ∷ []) ∷ (2 ∷ 3 ∷ []) ∷ [])
+    ∷ conflicts (arms "00 01 02 07") ((3 ∷ 4 ∷ 5 ∷ []) ∷ (2 ∷ 4 ∷ 6 ∷ []) ∷ (2 ∷ 3 ∷ 7 ∷ []) ∷ (2 ∷ 7 ∷ []) ∷ (3 ∷ []) ∷ (4 ∷ 5 ∷ []) ∷ [])
+    ∷ conflicts (arms "00 01 05 06") ((3 ∷ 4 ∷ 5 ∷ []) ∷ (2 ∷ 4 ∷ 6 ∷ []) ∷ (2 ∷ 3 ∷ 7 ∷ []) ∷ (2 ∷ []) ∷ (3 ∷ []) ∷ (4 ∷ []) ∷ [])
+    ∷ conflicts "03 01 01 02 01 01 01 00 02 01 02 02 03" ((3 ∷ 4 ∷ []) ∷ (2 ∷ []) ∷ (2 ∷ []) ∷ [])
+    -- levels conflict where some of their probes do, and never with themselves
+    ∷ level-conflicts five ((2 ∷ 3 ∷ []) ∷ (1 ∷ 3 ∷ 4 ∷ []) ∷ (1 ∷ 2 ∷ 4 ∷ 5 ∷ []) ∷ (2 ∷ 3 ∷ 5 ∷ []) ∷ (3 ∷ 4 ∷ []) ∷ [])
+    ∷ level-conflicts (star 4 "04 " "00 00") []
+    -- room: packets times level
+    ∷ room "00 00 00" 2
+    ∷ room "02 01 02 02 03 00 00" 18
+    ∷ room mixed 52
+    -- a count of slots, high byte first
+    ∷ count-bytes 255 "00 ff"
+    ∷ count-bytes 256 "01 00"
+    ∷ count-bytes 30240 "76 20"
+    -- the judge takes the sheet first; 11 in the count has place 0, else the slot's; 11 before 12
+    ∷ judged ring "" (6 ∷ 2 ∷ 0 ∷ [])
+    ∷ judged A "" (11 ∷ 0 ∷ 0 ∷ [])
+    ∷ judged A "00" (11 ∷ 0 ∷ 0 ∷ [])
+    ∷ judged A "00 01" (11 ∷ 1 ∷ 0 ∷ [])
+    ∷ judged A "00 01 01" (11 ∷ 1 ∷ 0 ∷ [])
+    ∷ judged A "00 02 01 02 02 03" (11 ∷ 2 ∷ 0 ∷ [])
+    ∷ judged A "01 00 01 02" (11 ∷ 2 ∷ 0 ∷ [])
+    ∷ judged A "00 01 02 09" (11 ∷ 1 ∷ 0 ∷ [])
+    -- 12: a sender below 2 or above n; over the whole slot before 13
+    ∷ judged A "00 01 01 00" (12 ∷ 1 ∷ 0 ∷ [])
+    ∷ judged A "00 01 02 01 02" (12 ∷ 1 ∷ 0 ∷ [])
+    ∷ judged A "00 01 01 05" (12 ∷ 1 ∷ 0 ∷ [])
+    ∷ judged A "00 01 01 04" (17 ∷ 1 ∷ 0 ∷ [])
+    ∷ judged A "00 02 01 02 01 05" (12 ∷ 2 ∷ 0 ∷ [])
+    ∷ judged (star 63 "3f " "00 00") "00 01 01 40" (17 ∷ 1 ∷ 0 ∷ [])
+    ∷ judged A "00 01 03 04 03 05" (12 ∷ 1 ∷ 0 ∷ [])
+    -- 13: equal or falling, also at the end of a slot; before 14
+    ∷ judged A "00 02 01 02 02 03 03" (13 ∷ 2 ∷ 0 ∷ [])
+    ∷ judged A "00 01 02 04 03" (13 ∷ 1 ∷ 0 ∷ [])
+    ∷ judged A "00 01 03 02 04 03" (13 ∷ 1 ∷ 0 ∷ [])
+    ∷ judged A "00 02 01 03 02 03 03" (13 ∷ 2 ∷ 0 ∷ [])
+    -- 14: no packet before the slot, first or last sender; before 15
+    ∷ judged A "00 02 01 03 02 03 04" (14 ∷ 2 ∷ 0 ∷ [])
+    ∷ judged A "00 02 01 04 02 03 04" (14 ∷ 2 ∷ 0 ∷ [])
+    ∷ judged A "00 02 01 02 02 02 03" (14 ∷ 2 ∷ 0 ∷ [])
+    -- 15: the first and the last of three, the first two, the last two; slots in order, and slots before 16
+    ∷ judged A "00 01 02 02 04" (15 ∷ 1 ∷ 0 ∷ [])
+    ∷ judged turned "00 01 02 02 04" (15 ∷ 1 ∷ 0 ∷ [])
+    ∷ judged (arms "00 01 02 07") "00 01 03 05 06 07" (15 ∷ 1 ∷ 0 ∷ [])
+    ∷ judged (arms "00 01 02 06") "00 01 03 05 06 07" (15 ∷ 1 ∷ 0 ∷ [])
+    ∷ judged (arms "00 01 03 07") "00 01 03 05 06 07" (15 ∷ 1 ∷ 0 ∷ [])
+    ∷ judged (arms "00 01 05 06") "00 01 03 05 06 07" (17 ∷ 1 ∷ 0 ∷ [])
+    ∷ judged A "00 02 01 03 02 02 04" (15 ∷ 2 ∷ 0 ∷ [])
+    ∷ judged A "00 02 02 02 04 01 05" (15 ∷ 1 ∷ 0 ∷ [])
+    ∷ judged A "00 01 02 02 04 00" (15 ∷ 1 ∷ 0 ∷ [])
+    -- 16: a byte behind the last slot, its place the slot count; before 17
+    ∷ judged A "00 00 00" (16 ∷ 0 ∷ 0 ∷ [])
+    ∷ judged A "00 03 01 02 02 03 04 01 02 00" (16 ∷ 3 ∷ 0 ∷ [])
+    -- 17: a packet is left outside
+    ∷ judged A "00 00" (17 ∷ 0 ∷ 0 ∷ [])
+    ∷ judged A "00 02 01 02 02 03 04" (17 ∷ 2 ∷ 0 ∷ [])
+    -- passed, also with slots that have no sender
+    ∷ judged A "00 03 01 02 02 03 04 01 02" (0 ∷ 0 ∷ 3 ∷ [])
+    ∷ judged A "00 04 00 01 02 02 03 04 01 02" (0 ∷ 0 ∷ 4 ∷ [])
+    ∷ judged "00 00 00" "00 00" (0 ∷ 0 ∷ 0 ∷ [])
+    -- packets move to the parent, and the gateway keeps what it got
+    ∷ holding A "00 00" (0 ∷ 0 ∷ 1 ∷ 1 ∷ 1 ∷ [])
+    ∷ holding A "00 02 01 02 02 03 04" (0 ∷ 2 ∷ 1 ∷ 0 ∷ 0 ∷ [])
+    -- the chooser: the passed one with fewer slots, the first when equal, else the empty part
+    ∷ chosen A "00 04 00 01 02 02 03 04 01 02" "00 03 01 02 02 03 04 01 02" "00 03 01 02 02 03 04 01 02"
+    ∷ chosen A "00 03 01 02 02 03 04 01 02" "00 04 00 01 02 02 03 04 01 02" "00 03 01 02 02 03 04 01 02"
+    ∷ chosen A "00 03 01 02 02 03 04 01 02" "00 03 02 03 04 01 02 01 02" "00 03 01 02 02 03 04 01 02"
+    ∷ chosen A "00 03 01 02 02 03 04 01 02" "00 00" "00 03 01 02 02 03 04 01 02"
+    ∷ chosen A "00 00" "00 03 01 02 02 03 04 01 02" "00 03 01 02 02 03 04 01 02"
+    ∷ chosen A "00 01 02 02 04" "00" ""
+    ∷ chosen ring "00 00" "00 00" ""
+    -- a number, and each kind of line that the lister prints
+    ∷ number-text 0 "0"
+    ∷ number-text 9 "9"
+    ∷ number-text 10 "10"
+    ∷ number-text 99 "99"
+    ∷ number-text 100 "100"
+    ∷ number-text 30240 "30240"
+    ∷ number-text 65535 "65535"
+    ∷ refusal-text 8 2016 "refused 8 2016\n"
+    ∷ numbers-text 63 30240 945 105 "colours 63 slots 30240 packets 945 heaviest 105\n"
+    ∷ slot-text 120 (9 ∷ 10 ∷ 64 ∷ []) "120: 9 10 64\n"
+    -- colours by probe: falling degree, ties by lower number, the smallest that is free
+    ∷ probe-colours A (1 ∷ 2 ∷ 2 ∷ [])
+    ∷ probe-colours A-with-a-pair (1 ∷ 2 ∷ 3 ∷ [])
+    ∷ probe-colours chain (1 ∷ 2 ∷ 3 ∷ [])
+    ∷ probe-colours five (3 ∷ 2 ∷ 1 ∷ 3 ∷ 2 ∷ [])
+    ∷ probe-colours (star 4 "04 " "00 00") (1 ∷ 2 ∷ 3 ∷ 4 ∷ [])
+    -- colours by level, likewise
+    ∷ level-colours A (1 ∷ 2 ∷ [])
+    ∷ level-colours five (3 ∷ 2 ∷ 1 ∷ 3 ∷ 2 ∷ [])
+    ∷ level-colours (star 4 "04 " "00 00") (1 ∷ [])
     -- no probes
-    room "00 00 00" 2
     ∷ plan-by-probe "00 00 00" 2 (0 ∷ 0 ∷ 0 ∷ 0 ∷ 2 ∷ []) "00 00"
     ∷ plan-by-level "00 00 00" 2 (0 ∷ 0 ∷ 0 ∷ 0 ∷ 2 ∷ []) "00 00"
     ∷ plan-by-probe "00 00 00" 1 (9 ∷ 0 ∷ 0 ∷ 0 ∷ 0 ∷ []) "ee"
-    -- A, by probe and by level
-    ∷ probe-colours A (1 ∷ 2 ∷ 2 ∷ [])
+    ∷ plan-by-level "00 00 00" 1 (9 ∷ 0 ∷ 0 ∷ 0 ∷ 0 ∷ []) "ee"
+    -- A, by probe and by level; 9 is one byte less than its room
     ∷ plan-by-probe A 10 (0 ∷ 0 ∷ 2 ∷ 3 ∷ 9 ∷ []) "00 03 01 02 02 03 04 01 02 ee"
     ∷ plan-by-probe A 9 (9 ∷ 0 ∷ 0 ∷ 0 ∷ 0 ∷ []) "ee ee ee ee ee ee ee ee ee"
-    ∷ level-colours A (1 ∷ 2 ∷ [])
     ∷ plan-by-level A 10 (0 ∷ 0 ∷ 2 ∷ 3 ∷ 9 ∷ []) "00 03 01 02 02 03 04 01 02 ee"
-    ∷ listed A "colours 2 slots 3 packets 3 heaviest 2\n1: 2\n2: 3 4\n3: 2\n"
-    -- A with pair 2, 4
-    ∷ probe-colours A-with-a-pair (1 ∷ 2 ∷ 3 ∷ [])
+    ∷ plan-by-level A 9 (9 ∷ 0 ∷ 0 ∷ 0 ∷ 0 ∷ []) "ee ee ee ee ee ee ee ee ee"
+    -- A with pair 2, 4; the chain; fifteen packets
     ∷ plan-by-probe A-with-a-pair 10 (0 ∷ 0 ∷ 3 ∷ 4 ∷ 10 ∷ []) "00 04 01 02 01 03 01 04 01 02"
-    -- the chain
-    ∷ probe-colours chain (1 ∷ 2 ∷ 3 ∷ [])
     ∷ plan-by-probe chain 14 (0 ∷ 0 ∷ 3 ∷ 6 ∷ 14 ∷ []) "00 06 01 02 01 03 01 04 01 02 01 03 01 02"
-    -- a ring that never arrives; packets 0 and 16 are refused, 15 pass
-    ∷ plan-by-probe ring 4 (6 ∷ 2 ∷ 0 ∷ 0 ∷ 0 ∷ []) "ee ee ee ee"
-    ∷ listed ring "refused 6 2\n"
-    ∷ plan-by-probe "01 01 00 00 00" 4 (5 ∷ 2 ∷ 0 ∷ 0 ∷ 0 ∷ []) "ee ee ee ee"
-    ∷ plan-by-probe "01 01 10 00 00" 4 (5 ∷ 2 ∷ 0 ∷ 0 ∷ 0 ∷ []) "ee ee ee ee"
     ∷ plan-by-probe "01 01 0f 00 00" 33 (0 ∷ 0 ∷ 1 ∷ 15 ∷ 32 ∷ [])
     "00 0f 01 02 01 02 01 02 01 02 01 02 01 02 01 02 01 02 01 02 01 02 01 02 01 02 01 02 01 02 01 02 ee"
-    -- plans of A judged, and chosen between
-    ∷ judged A "00 01 02 01 02" (12 ∷ 1 ∷ 0 ∷ [])
-    ∷ judged A "00 02 01 02 02 03 03" (13 ∷ 2 ∷ 0 ∷ [])
-    ∷ judged A "00 02 01 03 02 03 04" (14 ∷ 2 ∷ 0 ∷ [])
-    ∷ judged A "00 02 01 02 02 03 04" (17 ∷ 2 ∷ 0 ∷ [])
-    ∷ judged A "00 01 02 02 04" (15 ∷ 1 ∷ 0 ∷ [])
-    ∷ judged A "00 04 00 01 02 02 03 04 01 02" (0 ∷ 0 ∷ 4 ∷ [])
-    ∷ chosen A "00 04 00 01 02 02 03 04 01 02" "00 03 01 02 02 03 04 01 02" "00 03 01 02 02 03 04 01 02"
-    ∷ chosen A "00 03 01 02 02 03 04 01 02" "00 03 02 03 04 01 02 01 02" "00 03 01 02 02 03 04 01 02"
-    ∷ chosen A "00 01 02 02 04" "00" ""
-    -- two easy slips that the rows above let pass: a joiner tested only against colour s, and packets held when the round began
-    ∷ level-colours "04 01 01 01 01 01 01 02 01 00 00" (1 ∷ 2 ∷ [])
-    ∷ plan-by-level "04 01 01 01 01 01 01 02 01 00 00" 12 (0 ∷ 0 ∷ 2 ∷ 4 ∷ 11 ∷ []) "00 04 01 02 02 03 05 01 02 01 04 ee"
+    -- the sheet comes before the room
+    ∷ plan-by-probe ring 4 (6 ∷ 2 ∷ 0 ∷ 0 ∷ 0 ∷ []) "ee ee ee ee"
+    ∷ plan-by-level ring 4 (6 ∷ 2 ∷ 0 ∷ 0 ∷ 0 ∷ []) "ee ee ee ee"
+    ∷ plan-by-probe "02 01 01 01 01 00 02 01 02 01 02" 2 (8 ∷ 2 ∷ 0 ∷ 0 ∷ 0 ∷ []) "ee ee"
+    -- several rounds; joiners conflict with earlier joiners; a probe emptied as a joiner does not send again unless refilled
     ∷ plan-by-probe "05 01 01 02 01 03 01 04 01 04 01 00 00" 30 (0 ∷ 0 ∷ 4 ∷ 12 ∷ 28 ∷ [])
     "00 0c 01 03 01 04 02 02 05 02 02 06 01 03 01 04 01 02 01 03 01 04 01 02 01 03 01 02 ee ee"
-    -- where the words of the tests' order allow two readings
-    ∷ plan-by-probe "" 2 (1 ∷ 0 ∷ 0 ∷ 0 ∷ 0 ∷ []) "ee ee"
-    ∷ plan-by-probe "40" 2 (2 ∷ 0 ∷ 0 ∷ 0 ∷ 0 ∷ []) "ee ee"
-    ∷ plan-by-probe "01 01 01 ff ff" 2 (2 ∷ 0 ∷ 0 ∷ 0 ∷ 0 ∷ []) "ee ee"
-    ∷ plan-by-probe "02 01 10 00 01 00 00" 2 (5 ∷ 2 ∷ 0 ∷ 0 ∷ 0 ∷ []) "ee ee"
-    ∷ plan-by-probe "02 01 01 01 01 00 03 01 03 01 02 00 01" 2 (8 ∷ 2 ∷ 0 ∷ 0 ∷ 0 ∷ []) "ee ee"
-    ∷ judged A "00" (11 ∷ 0 ∷ 0 ∷ [])
-    ∷ judged A "00 01 02 09" (11 ∷ 1 ∷ 0 ∷ [])
-    ∷ judged A "00 00 00" (16 ∷ 0 ∷ 0 ∷ [])
+    -- by level, several rounds; probes of one level may conflict
+    ∷ plan-by-level mixed 53 (0 ∷ 0 ∷ 3 ∷ 20 ∷ 47 ∷ [])
+    "00 14 02 02 07 02 03 05 02 04 06 01 02 02 03 05 02 04 06 01 02 01 03 01 02 01 03 01 02 01 03 01 02 01 04 01 02 01 04 01 02 01 02 01 02 01 02 ee ee ee ee ee ee"
+    ∷ plan-by-level "04 01 02 01 01 01 01 02 03 00 00" 22 (0 ∷ 0 ∷ 2 ∷ 8 ∷ 20 ∷ [])
+    "00 08 01 02 02 03 05 01 02 02 04 05 01 02 01 05 01 02 01 02 ee ee"
+    ∷ plan-by-level five 32 (0 ∷ 0 ∷ 3 ∷ 12 ∷ 29 ∷ []) "00 0c 01 04 02 03 06 02 02 05 01 04 01 03 02 02 05 01 04 01 03 01 02 01 03 01 02 01 02 ee ee ee"
+    ∷ plan-by-level "04 01 01 01 01 01 01 02 01 00 00" 12 (0 ∷ 0 ∷ 2 ∷ 4 ∷ 11 ∷ []) "00 04 01 02 02 03 05 01 02 01 04 ee"
+    -- the lister, whole
+    ∷ listed A "colours 2 slots 3 packets 3 heaviest 2\n1: 2\n2: 3 4\n3: 2\n"
+    ∷ listed "00 00 00" "colours 0 slots 0 packets 0 heaviest 0\n"
+    ∷ listed ring "refused 6 2\n"
+    ∷ listed mixed
+    "colours 3 slots 20 packets 13 heaviest 11\n1: 2 7\n2: 3 5\n3: 4 6\n4: 2\n5: 3 5\n6: 4 6\n7: 2\n8: 3\n9: 4\n10: 2\n11: 3\n12: 4\n13: 2\n14: 3\n15: 2\n16: 2\n17: 2\n18: 2\n19: 2\n20: 2\n"
+    ∷ listed (star 12 "0c " "00 01 00 01") "refused 7 1\n"
     ∷ []
 
 -- the one claim: every row is true
 pub proved-yards : T (all-true yards)
-unfolding digit pairs hex planner verdict same true-row all-true A A-with-a-pair chain ring yards
-    forEach some sum most tab probesThat reaches climb parentOf packetsOf levelOf hops allPackets heaviest interfere slotBytes
+unfolding digit pairs hex many planner verdict same up says true-row all-true A A-with-a-pair chain turned ring five arms mixed star yards
+    forEach some sum most tab probesThat reaches climb climbed parentOf packetsOf levelOf hops allPackets heaviest interfere slotBytes
     disturb conflict conflictTable smallestFree nextOf colouredBy probeColours levelsConflict levels depth levelColours
     joined ownersByProbe ownersByLevel slotOf moved recorded round rounds byProbe byLevel slotsOf
     _then_ inOrder probeTest walkTest pairTest countsTest sheetTest planTest planAnswer planBuffer

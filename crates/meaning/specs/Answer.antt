@@ -6,8 +6,10 @@ use lib.Dec.{eqb, ltb, leb}
 use lib.ListN.{length}
 use Rattle.meaning.specs.declared.Outcome.{Outcome}
 use Rattle.meaning.specs.declared.Planned.{Planned}
+use Rattle.meaning.specs.declared.Walk.{Walk}
+use Rattle.meaning.specs.declared.Walk.the-variants.{Arrives, Never}
 use Rattle.meaning.specs.Words.{forEach}
-use Rattle.meaning.specs.Yard.{reaches}
+use Rattle.meaning.specs.Yard.{climbed}
 use Rattle.meaning.specs.Sheet.{firstOf, secondOf, probeCount, probeRecords, pairCountAt, pairCount, pairRecords, sheetLength, parentOf, hops}
 use Rattle.meaning.specs.Plan.{planBytes, roomFor, front}
 use Rattle.meaning.specs.Rounds.{Way, slotsOf}
@@ -38,9 +40,14 @@ probeTest records p k =
     given 4 (k + 2) (eqb (firstOf records k) 0 || ltb (p + 1) (firstOf records k) || eqb (firstOf records k) (k + 2))
     then given 5 (k + 2) (eqb (secondOf records k) 0 || ltb 15 (secondOf records k))
 
+-- "Numbers returned": what the end of a probe's walk gives: no number where it arrives, 6 where it never does
+abbrev pub walkGives : ℕ → Walk → Outcome
+walkGives v (Arrives level) = accepted
+walkGives v Never = record { number = 6; place = v }
+
 -- "Numbers returned": 6, the walk to parents never reaches node 1; p hops are enough for any walk that does
 unfoldable pub walkTest : (ℕ → ℕ) → ℕ → ℕ → Outcome
-walkTest parent p k = given 6 (k + 2) (not (reaches parent 1 p (k + 2)))
+walkTest parent p k = walkGives (k + 2) (climbed parent p (k + 2))
 
 -- "The yard sheet in bytes": record k is above the one before, by a and then by b
 abbrev pub above : List ℕ → ℕ → Bool

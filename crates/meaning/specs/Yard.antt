@@ -2,6 +2,8 @@
 use mathlib.Core.Bool.{Bool, cond, _&&_, _||_}
 use Prim.Native.Nat.{ℕ, zero, suc, _+_, _*_}
 use lib.Dec.{eqb, leb}
+use Rattle.meaning.specs.declared.Walk.{Walk}
+use Rattle.meaning.specs.declared.Walk.the-variants.{Arrives, Never}
 use Rattle.meaning.specs.Words.{sumProbes, mostProbes}
 
 -- "Numbers of the yard": node 1 is the gateway, the probes are 2 to n, and n = p + 1
@@ -17,6 +19,10 @@ reaches parent top (suc left) v = eqb v top || reaches parent top left (parent v
 unfoldable pub climb : (ℕ → ℕ) → ℕ → ℕ → ℕ
 climb parent zero v = 0
 climb parent (suc left) v = cond (eqb v 1) 0 (suc (climb parent left (parent v)))
+
+-- "Numbers of the yard": where this walk ends: it arrives with its level, or has not arrived when no hops are left
+unfoldable pub climbed : (ℕ → ℕ) → ℕ → ℕ → Walk
+climbed parent left v = cond (reaches parent 1 left v) (Arrives (record { 0 = climb parent left v })) Never
 
 -- "Numbers of the yard": the level of a probe; a walk that arrives has at most p hops
 abbrev pub levelBy : ℕ → (ℕ → ℕ) → ℕ → ℕ

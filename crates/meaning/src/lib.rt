@@ -1,9 +1,11 @@
 // The yard's own numbers and answers. Their meaning, after document 01, stands in specs/.
 ghost use mathlib.Core.Path.{_≡_};
-ghost use lib.ListN.{getD};
 ghost use Rattle.meaning.specs.Answer.{refusedPlan};
 
-// A probe's number, 2 to 64.
+// A node's number: the gateway's, 1, or a probe's.
+pub struct Node(pub u8);
+
+// A probe's number, from 2.
 pub struct Probe(pub u8);
 
 // A level, the number of hops to the gateway, 0 to 63.
@@ -29,6 +31,12 @@ pub struct Planned {
     pub bytes: usize,
 }
 
+// Where a walk from parent to parent ends: at the gateway, after so many hops, or nowhere.
+pub enum Walk {
+    Arrives(Level),
+    Never,
+}
+
 // What the judge answers; the slots are 0 unless the plan is passed.
 pub struct Verdict {
     pub outcome: Outcome,
@@ -52,11 +60,4 @@ pub fn refused_plan(outcome: Outcome) -> Planned
         slots: 0,
         bytes: 0,
     }
-}
-
-// What stands at a place of a list, 0 past its end.
-pub fn number_at(list: &[u8], at: usize) -> u8
-    ensures { λ r. ⌜ r ≡ getD (now (list .entry)) at 0 ⌝ }
-{
-    if at < list.len() { list[at] } else { 0 }
 }

@@ -21,13 +21,13 @@ use Rattle.meaning.specs.Conflict.{conflict, tableOf, entry, conflictTable}
 use Rattle.meaning.specs.Colour.{colouring, coloursUsed, probeColours, levels, depth, levelColours, levelsConflict}
 use Rattle.meaning.specs.Rounds.{Progress, Way, ownersByProbe, ownersByLevel, rounds, before, byProbe, byLevel, slotsOf}
 use Rattle.meaning.specs.Answer.{accepted, isAccepted, given, _then_, sheetTest, planTest, planAnswer, planBuffer, refusedPlan}
-use Rattle.meaning.proofs.Turns.{getD-tab, length-tab}
-use Rattle.meaning.proofs.Walk.{probe-yes, not-both}
-use Rattle.meaning.proofs.Moving.{weigh}
-use Rattle.meaning.proofs.Colouring.{Conflicts, Proper, proper}
-use Rattle.meaning.proofs.Conflicting.{interfere-sym, conflicts, entry-conflict}
-use Rattle.meaning.proofs.Accepted.{then-stays, then-goes, then-assoc, then-accepted, given-accepted}
-use Rattle.meaning.proofs.Grounds.{few-probes, parent-read, parent-node, level-up, few-packets, first-left, hops-most}
+use Rattle.laws.proofs.Turns.{getD-tab, length-tab}
+use Rattle.laws.proofs.Walk.{probe-yes, not-both}
+use Rattle.laws.proofs.Moving.{weigh}
+use Rattle.laws.proofs.Colouring.{Conflicts, Proper, proper}
+use Rattle.laws.proofs.Conflicting.{interfere-sym, conflicts, entry-conflict}
+use Rattle.laws.proofs.Accepted.{then-stays, then-goes, then-assoc, then-accepted, given-accepted}
+use Rattle.laws.proofs.Grounds.{few-probes, parent-read, parent-node, level-up, few-packets, first-left, hops-most}
 use Rattle.plan.specs.Turn.{Ready}
 use Rattle.plan.specs.Going.{wayBy, from, slotsBy}
 use Rattle.plan.specs.Answered.{groundTest, Standing, Prepared, Finished}

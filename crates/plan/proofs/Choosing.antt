@@ -13,7 +13,7 @@ use lib.Seq.{getD-set-same, getD-set-other}
 use Rattle.meaning.specs.Words.{forEach, some, tab, places}
 use Rattle.meaning.specs.Rounds.{holds, clashes, joins, joined}
 use Rattle.plan.specs.Turn.{blockedBy, anyTaken, Considered, Joining}
-use Rattle.meaning.proofs.Turns.{below-or-last, forEach-one, forEach-keeps, some-one, some-same, tab-same, getD-tab, getD-places}
+use Rattle.laws.proofs.Turns.{below-or-last, forEach-one, forEach-keeps, some-one, some-same, tab-same, getD-tab, getD-places}
 
 -- what flags by node say, if only those that hold a packet pass the test
 pub flags-say : (flags : List Bool) (test : ℕ → Bool) (held : List ℕ) → length held ≡ places → ((v : ℕ) → holds held v ≡ false → test v ≡ false)

@@ -12,8 +12,8 @@ use Rattle.meaning.specs.Words.{forEach}
 use Rattle.meaning.specs.Yard.{levelBy}
 use Rattle.meaning.specs.Plan.{front, slotBytes, planBytes, twoBytes}
 use Rattle.meaning.specs.Rounds.{Progress, Way, holds, outside, moved, recorded, round, rounds, slotFor}
-use Rattle.meaning.proofs.Turns.{forEach-keeps}
-use Rattle.meaning.proofs.Moving.{weigh}
+use Rattle.laws.proofs.Turns.{forEach-keeps}
+use Rattle.laws.proofs.Moving.{weigh}
 use Rattle.plan.specs.Turn.{Ready, turnSlot, made}
 use Rattle.plan.specs.Going.{wayBy, from, slotsBy, Going, Filled}
 use Rattle.plan.proofs.Turning.{ready-next, turn-hops}

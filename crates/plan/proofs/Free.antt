@@ -9,8 +9,8 @@ use lib.ListN.{length, getD, set}
 use lib.Seq.{getD-set-same, getD-set-other, set-getD}
 use Rattle.meaning.specs.Words.{forEach, tab, places}
 use Rattle.meaning.specs.Rounds.{clashes, joins, joined}
-use Rattle.meaning.proofs.Slots.{never}
-use Rattle.meaning.proofs.Turns.{forEach-one, tab-same, getD-tab}
+use Rattle.laws.proofs.Slots.{never}
+use Rattle.laws.proofs.Turns.{forEach-one, tab-same, getD-tab}
 use Rattle.plan.specs.Turn.{blockedBy}
 use Rattle.plan.proofs.Choosing.{some-set, joining-long, flag-final}
 

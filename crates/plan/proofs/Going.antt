@@ -13,8 +13,8 @@ use lib.Seq.{take-all, take-at, drop-at, drop-drop}
 use Rattle.meaning.specs.Words.{forEach}
 use Rattle.meaning.specs.Plan.{front, slotBytes}
 use Rattle.meaning.specs.Rounds.{Progress, Way, holds, moved, recorded, round, rounds, slotFor, outside}
-use Rattle.meaning.proofs.Turns.{forEach-one, forEach-stays}
-use Rattle.meaning.proofs.Exact.{slot-bytes-append}
+use Rattle.laws.proofs.Turns.{forEach-one, forEach-stays}
+use Rattle.laws.proofs.Exact.{slot-bytes-append}
 use Rattle.plan.specs.Turn.{Ready, Turned, turnSlot, made}
 use Rattle.plan.specs.Going.{wayBy, from, Going}
 use Rattle.plan.proofs.Writing.{length-front}

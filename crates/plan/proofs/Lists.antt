@@ -8,7 +8,7 @@ use native.Mathlib.Omega.{arith}
 use lib.ListN.{length, getD, take, drop, set, length-set}
 use lib.Seq.{drop-set-lt, drop-drop, getD-drop}
 use Rattle.meaning.specs.Words.{tab}
-use Rattle.meaning.proofs.Turns.{tab-next, tab-full}
+use Rattle.laws.proofs.Turns.{tab-next, tab-full}
 
 -- the list l, as far as place i, in the course of becoming `tab n f`; what it was is l₀
 pub record Becoming {A : Type 0} (n i : ℕ) (f : ℕ → A) (l₀ l : List A) : Type 0 where

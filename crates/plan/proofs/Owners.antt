@@ -13,9 +13,9 @@ use lib.ListN.{getD, set}
 use Rattle.meaning.specs.Words.{forEach, some, tab, places}
 use Rattle.meaning.specs.Yard.{isProbe}
 use Rattle.meaning.specs.Rounds.{Progress, Way, holds, outside, clashes, joins, joined, ownersByProbe, ownersByLevel, slotOf, recorded, round, rounds}
-use Rattle.meaning.proofs.Turns.{forEach-same, none-some, tab-same, getD-tab, getD-places, set-tab, same-or-other}
-use Rattle.meaning.proofs.Walk.{probe-below, probe-past}
-use Rattle.meaning.proofs.Slots.{and-left, true-or-false}
+use Rattle.laws.proofs.Turns.{forEach-same, none-some, tab-same, getD-tab, getD-places, set-tab, same-or-other}
+use Rattle.laws.proofs.Walk.{probe-below, probe-past}
+use Rattle.laws.proofs.Slots.{and-left, true-or-false}
 use Rattle.plan.specs.Turn.{nobody}
 
 nobody-tab : nobody ≡ tab places (λ _. false)

@@ -18,12 +18,12 @@ use Rattle.meaning.specs.Sheet.{probeCount, parentOf, packetsOf, levelOf, hops}
 use Rattle.meaning.specs.Plan.{roomFor}
 use Rattle.meaning.specs.Colour.{levels}
 use Rattle.meaning.specs.Answer.{accepted, isAccepted, given, _then_, sheetTest}
-use Rattle.walk.specs.Climbed.{levelsBy}
+use Rattle.walk.specs.Levels.{levelsBy}
 use Rattle.sheet.specs.Yard.{yardOf}
-use Rattle.meaning.proofs.Turns.{sum-same, getD-tab}
-use Rattle.meaning.proofs.Slots.{true-or-false}
-use Rattle.meaning.proofs.Accepted.{then-stays, then-goes, then-accepted}
-use Rattle.meaning.proofs.Grounds.{few-probes, parent-read, packets-read}
+use Rattle.laws.proofs.Turns.{sum-same, getD-tab}
+use Rattle.laws.proofs.Slots.{true-or-false}
+use Rattle.laws.proofs.Accepted.{then-stays, then-goes, then-accepted}
+use Rattle.laws.proofs.Grounds.{few-probes, parent-read, packets-read}
 use Rattle.plan.specs.Answered.{groundTest, Standing, Prepared}
 
 module _ (outcome : Outcome) (room hops : ℕ) (passed : outcome .number ≡ 0) where

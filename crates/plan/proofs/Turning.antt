@@ -15,14 +15,14 @@ use lib.Seq.{getD-set-same, getD-set-other, take-at}
 use Rattle.meaning.specs.Words.{forEach, some, tab, places, probesThat, someProbe}
 use Rattle.meaning.specs.Plan.{front, slotBytes}
 use Rattle.meaning.specs.Rounds.{holds, clashes, joins, joined, senders, slotOf, ownersByProbe, ownersByLevel, moved}
-use Rattle.meaning.proofs.Turns.{below-or-last, forEach-one, some-found, some-none, none-some, some-where, same-or-other}
-use Rattle.meaning.proofs.Moving.{weigh, Each, Rising, Sender, weigh-moved, weigh-up, kept, length-moved}
-use Rattle.meaning.proofs.Slots.{Only, only-joined, each-probe, each-slot, each-so, rising-slot, rising-probes, and-right, never}
+use Rattle.laws.proofs.Turns.{below-or-last, forEach-one, some-found, some-none, none-some, some-where, same-or-other}
+use Rattle.laws.proofs.Moving.{weigh, Each, Rising, Sender, weigh-moved, weigh-up, kept, length-moved}
+use Rattle.laws.proofs.Slots.{Only, only-joined, each-probe, each-slot, each-so, rising-slot, rising-probes, and-right, never}
 use Rattle.plan.specs.Turn.{blockedBy, anyTaken, Joining, nobody, Chosen, Ready, Written, Turned, turnSlot, made}
 use Rattle.meaning.specs.Yard.{levelBy}
 use Rattle.plan.proofs.Choosing.{flags-say, joining-long}
 use Rattle.plan.proofs.Writing.{probes-put, probes-grow, length-front}
-use Rattle.meaning.proofs.Running.{each-at}
+use Rattle.laws.proofs.Running.{each-at}
 
 -- nobody blocks nobody
 pub unblocked : (relation : ℕ → ℕ → Bool) → nobody ≡ blockedBy relation nobody

@@ -12,7 +12,7 @@ use lib.ListN.{length, getD, drop, set, length-append, length-drop, length-set}
 use lib.Seq.{drop-cons, set-at, drop-set-lt}
 use Rattle.meaning.specs.Words.{probesThat}
 use Rattle.meaning.specs.Plan.{front}
-use Rattle.meaning.proofs.Turns.{below-or-last}
+use Rattle.laws.proofs.Turns.{below-or-last}
 use Rattle.plan.specs.Turn.{Written}
 
 pub length-front : (d xs : List ℕ) → length xs ≤ length d → length (front d xs) ≡ length d

@@ -8,7 +8,7 @@ use Rattle.meaning.specs.Plan.{front, slotBytes}
 use Rattle.meaning.specs.Yard.{levelBy}
 use Rattle.meaning.specs.Words.{some, tab, places, someProbe}
 use Rattle.meaning.specs.Rounds.{holds, clashes, joins, joined, slotOf, ownersByLevel, moved}
-use Rattle.meaning.proofs.Moving.{weigh}
+use Rattle.laws.proofs.Moving.{weigh}
 
 -- those that one chosen so far conflicts with, by node
 abbrev pub blockedBy : (ℕ → ℕ → Bool) → List Bool → List Bool

@@ -10,7 +10,7 @@ ghost use Rattle.meaning.specs.Plan.{front, roomFor};
 ghost use Rattle.meaning.specs.Answer.{given, _then_, planAnswer, planBuffer};
 ghost use Rattle.meaning.specs.Conflict.{entry};
 ghost use Rattle.meaning.specs.Rounds.{holds, ownersByProbe, joined, senders, hop, moved, outside, rounds, byProbe, byLevel};
-ghost use Rattle.meaning.proofs.Moving.{weigh, Rising, Sender};
+ghost use Rattle.laws.proofs.Moving.{weigh, Rising, Sender};
 ghost use Rattle.plan.specs.Turn.{blockedBy, Considered, Joining, Written, nobody, Chosen, Ready, Turned, turnSlot};
 ghost use Rattle.plan.specs.Going.{wayBy, from, roundOf, Going, slotsBy, Filled};
 ghost use Rattle.plan.specs.Answered.{Prepared, Finished};
@@ -452,7 +452,7 @@ fn colours_by_level(levels: [u8; 65], colours: [u8; 65]) -> [u8; 65]
     let mut own = [0u8; 65];
     let mut v = 0;
     while v < 65 {
-        own[v] = meaning::number_at(&colours, levels[v] as usize);
+        own[v] = laws::number_at(&colours, levels[v] as usize);
         v += 1;
     }
     own

@@ -6,7 +6,7 @@ use native.Mathlib.Omega.{arith}
 use lib.ListN.{length, getD, take, drop, length-drop, drop-of-length-le}
 use lib.Seq.{take-all, drop-length}
 use Rattle.meaning.specs.Sheet.{pairCountAt, pairCount}
-use Rattle.meaning.proofs.Walk.{probe-yes, probe-below, probe-past}
+use Rattle.laws.proofs.Walk.{probe-yes, probe-below, probe-past}
 use Rattle.sheet.specs.Yard.{recordByte}
 
 pub rest-within : (s : List ℕ) (at : ℕ) → take (length s - at) (drop at s) ≡ drop at s

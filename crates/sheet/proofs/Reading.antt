@@ -12,9 +12,9 @@ use Rattle.meaning.specs.declared.Outcome.{Outcome}
 use Rattle.meaning.specs.Words.{tab, places}
 use Rattle.meaning.specs.Sheet.{probeCount, probeRecords, pairCount, pairRecords, parentOf, packetsOf}
 use Rattle.meaning.specs.Answer.{isAccepted, _then_, inOrder, probeTest, walkTest, pairTest, countsTest, sheetTest}
-use Rattle.meaning.proofs.Turns.{getD-places}
-use Rattle.meaning.proofs.Walk.{probe-past}
-use Rattle.meaning.proofs.Accepted.{then-stays, then-goes, then-accepted, given-accepted, parent-outside}
+use Rattle.laws.proofs.Turns.{getD-places}
+use Rattle.laws.proofs.Walk.{probe-past}
+use Rattle.laws.proofs.Accepted.{then-stays, then-goes, then-accepted, given-accepted, parent-outside}
 use Rattle.sheet.specs.Yard.{recordByte, refusedYard, yardOf}
 
 module _ (s : List ℕ) where

@@ -1,19 +1,14 @@
 -- The tests of one record as the code makes them: `a` and `b` are the two bytes that it read, and `wrong` is what a comparison of them said. Each law
 -- rewrites the definition with what is known at one of the code's answers. Assumes nothing.
-use mathlib.Core.Path.{_≡_, refl, sym, _∙_}
+use mathlib.Core.Path.{_≡_}
 use mathlib.Core.Bool.{Bool, true, false, _||_, _&&_}
 use mathlib.Core.List.{List}
 use Prim.Native.Nat.{ℕ, _+_, _-_}
 use native.Mathlib.Omega.{arith}
 use borrow.Author.Tests.{lt-ltb, le-ltb}
 use lib.Dec.{eqb, ltb, leb}
-use Rattle.meaning.specs.declared.Level.{Level}
-use Rattle.meaning.specs.Yard.{reaches, climb}
 use Rattle.meaning.specs.Sheet.{firstOf, secondOf}
-use Rattle.meaning.specs.Answer.{accepted, _then_, probeTest, walkTest, pairTest}
-use Rattle.walk.specs.declared.Walk.{Walk}
-use Rattle.walk.specs.declared.Walk.the-variants.{Arrives, Never}
-use Rattle.walk.specs.Climbed.{climbed}
+use Rattle.meaning.specs.Answer.{accepted, _then_, probeTest, pairTest}
 
 module _ (records : List ℕ) (p k a : ℕ) (parentWrong : Bool) (first : a ≡ firstOf records k)
     (parent : parentWrong ≡ (eqb a 0 || ltb (p + 1) a || eqb a (k + 2))) where
@@ -51,24 +46,3 @@ module _ (records : List ℕ) (p k a b : ℕ) (pairWrong : Bool) (first : a ≡ 
       pub pair-passed : rises ≡ true → accepted ≡ pairTest records p k
       unfolding pairTest _then_
       pair-passed fine = simp (← first₀, ← second₀, ← first, ← second, ← pair, right, lt-ltb 0 k (omega arith), ← order, fine)
-
-arrives-never : (level : Level) → Arrives level ≡ Never → ⊥
-arrives-never level e = let z : _≡_ {A = ℕ} 0 1 = cc in omega arith
-
--- a walk that arrives gives no number, and one that never does gives 6
-module _ (parent : ℕ → ℕ) (p k : ℕ) (end : Walk) (walked : end ≡ climbed parent p (k + 2)) where
-  pub walk-passed : (level : Level) → end ≡ Arrives level → accepted ≡ walkTest parent p k
-  unfolding walkTest climbed
-  walk-passed level is = go (reaches parent 1 p (k + 2)) refl
-    where
-      go : (t : Bool) → reaches parent 1 p (k + 2) ≡ t → accepted ≡ walkTest parent p k
-      go true e = simp e
-      go false e = let never : end ≡ Never = walked ∙ simp e in absurd (arrives-never level (sym is ∙ never))
-
-  pub walk-refused : end ≡ Never → record { number = 6; place = k + 2 } ≡ walkTest parent p k
-  unfolding walkTest climbed
-  walk-refused is = go (reaches parent 1 p (k + 2)) refl
-    where
-      go : (t : Bool) → reaches parent 1 p (k + 2) ≡ t → record { number = 6; place = k + 2 } ≡ walkTest parent p k
-      go true e = let some : end ≡ Arrives (record { 0 = climb parent p (k + 2) }) = walked ∙ simp e in absurd (arrives-never _ (sym some ∙ is))
-      go false e = simp e

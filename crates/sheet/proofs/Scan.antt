@@ -7,7 +7,7 @@ use borrow.Author.Tests.{eq-eqb, ne-eqb}
 use Rattle.meaning.specs.declared.Outcome.{Outcome}
 use Rattle.meaning.specs.Words.{forEach}
 use Rattle.meaning.specs.Answer.{accepted, isAccepted, inOrder}
-use Rattle.meaning.proofs.Accepted.{inOrder-next, inOrder-stops}
+use Rattle.laws.proofs.Accepted.{inOrder-next, inOrder-stops}
 
 -- as far as test k of n: what was found is the answer of those before, and it is no number
 pub record Scanned (test : ℕ → Outcome) (n k : ℕ) (found : Outcome) : Type 0 where

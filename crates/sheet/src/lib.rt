@@ -6,11 +6,12 @@ ghost use lib.Dec.{eqb, ltb, leb};
 ghost use lib.ListN.{getD, drop};
 ghost use Rattle.meaning.specs.Words.{tab, places};
 ghost use Rattle.meaning.specs.Sheet.{probeRecords, pairCountAt, pairCount, pairRecords};
-ghost use Rattle.meaning.specs.Answer.{inOrder, probeTest, walkTest, pairTest, countsTest, sheetTest};
+ghost use Rattle.meaning.specs.Answer.{inOrder, probeTest, walkGives, walkTest, pairTest, countsTest, sheetTest};
 ghost use Rattle.sheet.specs.Yard.{ofTheSheet, recordByte, refusedYard, yardOf};
+use meaning::Node;
 use meaning::Outcome;
 use meaning::Probe;
-use walk::Walk;
+use meaning::Walk;
 
 // What a sheet is read as; the parents and the packets stand by node, and all is 0 where it is refused.
 pub struct Yard {
@@ -32,7 +33,7 @@ fn rest(s: &[u8], at: usize) -> &[u8]
 fn pair_count_at(sheet: &[u8]) -> usize
     ensures { λ r. ⌜ r ≡ pairCountAt (now (sheet .entry)) ⌝ }
 {
-    2 * (meaning::number_at(sheet, 0) as usize) + 1
+    2 * (laws::number_at(sheet, 0) as usize) + 1
 }
 
 // q, the number of interfering pairs.
@@ -40,7 +41,7 @@ pub fn pair_count(sheet: &[u8]) -> u16
     ensures { λ r. ⌜ r ≡ pairCount (now (sheet .entry)) ⌝ }
 {
     let at = pair_count_at(sheet);
-    256 * (meaning::number_at(sheet, at) as u16) + meaning::number_at(sheet, at + 1) as u16
+    256 * (laws::number_at(sheet, at) as u16) + laws::number_at(sheet, at + 1) as u16
 }
 
 // The probes' records: the rest of the sheet behind p.
@@ -66,7 +67,7 @@ fn counts_number(sheet: &[u8]) -> u8
     if length == 0 {
         return 1;
     }
-    let p = meaning::number_at(sheet, 0) as usize;
+    let p = laws::number_at(sheet, 0) as usize;
     if 63 < p {
         return 2;
     }
@@ -118,13 +119,13 @@ fn probe_test(records: &[u8], p: u8, k: u8) -> Outcome
 {
     let probe = k as u16 + 2;
     let at = 2 * (k as usize);
-    if parent_wrong(meaning::number_at(records, at) as u16, p as u16 + 1, probe) {
+    if parent_wrong(laws::number_at(records, at) as u16, p as u16 + 1, probe) {
         return Outcome {
             number: 4,
             place: probe,
         };
     }
-    if packets_wrong(meaning::number_at(records, at + 1)) {
+    if packets_wrong(laws::number_at(records, at + 1)) {
         return Outcome {
             number: 5,
             place: probe,
@@ -165,7 +166,7 @@ fn record_byte(records: &[u8], p: u8, side: usize, v: usize) -> u8
     if n < v {
         return 0;
     }
-    meaning::number_at(records, 2 * (v - 2) + side)
+    laws::number_at(records, 2 * (v - 2) + side)
 }
 
 // One byte of each record, by node.
@@ -194,22 +195,30 @@ fn packets(records: &[u8], p: u8) -> [u8; 65]
     by_node(records, p, 1)
 }
 
-// 6 of probe k + 2.
-fn walk_test(parents: &[u8; 65], p: u8, k: u8) -> Outcome
-    requires { ⌜ k < 63 ⌝ }
-    ensures { λ r. ⌜ r ≡ walkTest (λ v. getD (now (parents .entry)) v 0) p k ⌝ }
+// What the end of a probe's walk gives.
+fn walk_gives(probe: Probe, end: Walk) -> Outcome
+    ensures { λ r. ⌜ r ≡ walkGives (probe .0) end ⌝ }
 {
-    let probe = k + 2;
-    match walk::climb(parents, Probe(probe), p) {
+    match end {
         Walk::Arrives(_) => Outcome {
             number: 0,
             place: 0,
         },
         Walk::Never => Outcome {
             number: 6,
-            place: probe as u16,
+            place: probe.0 as u16,
         },
     }
+}
+
+// 6 of probe k + 2.
+fn walk_test(parents: &[u8; 65], p: u8, k: u8) -> Outcome
+    requires { ⌜ k < 63 ⌝ }
+    ensures { λ r. ⌜ r ≡ walkTest (λ v. getD (now (parents .entry)) v 0) p k ⌝ }
+{
+    let probe = k + 2;
+    let end = walk::climb(parents, Node(probe), p);
+    walk_gives(Probe(probe), end)
 }
 
 // The probes' walks in rising number, up to the first that never arrives.
@@ -250,8 +259,8 @@ fn pair_test(records: &[u8], p: u8, k: u16) -> Outcome
     ensures { λ r. ⌜ r ≡ pairTest (now (records .entry)) p k ⌝ }
 {
     let at = 2 * (k as usize);
-    let a = meaning::number_at(records, at) as u16;
-    let b = meaning::number_at(records, at + 1) as u16;
+    let a = laws::number_at(records, at) as u16;
+    let b = laws::number_at(records, at + 1) as u16;
     if pair_wrong(a, b, p as u16 + 1) {
         return Outcome {
             number: 7,
@@ -266,8 +275,8 @@ fn pair_test(records: &[u8], p: u8, k: u16) -> Outcome
     }
     let before = 2 * (k as usize - 1);
     if rises(
-        meaning::number_at(records, before) as u16,
-        meaning::number_at(records, before + 1) as u16,
+        laws::number_at(records, before) as u16,
+        laws::number_at(records, before + 1) as u16,
         a,
         b,
     ) {
@@ -307,7 +316,7 @@ fn sheet_test(sheet: &[u8]) -> Outcome
     if counts.number != 0 {
         return counts;
     }
-    let p = meaning::number_at(sheet, 0);
+    let p = laws::number_at(sheet, 0);
     let records = probe_records(sheet);
     let probes = probes_test(records, p);
     if probes.number != 0 {
@@ -341,7 +350,7 @@ pub fn read(sheet: &[u8]) -> Yard
     if outcome.number != 0 {
         return refused(outcome);
     }
-    let probes = meaning::number_at(sheet, 0);
+    let probes = laws::number_at(sheet, 0);
     let records = probe_records(sheet);
     let parents = parents(records, probes);
     let packets = packets(records, probes);

@@ -10,14 +10,12 @@ use native.Mathlib.Omega.{arith}
 use lib.ListN.{getD}
 use borrow.Author.Tests.{ne-eqb}
 use Rattle.meaning.specs.declared.Level.{Level}
-use Rattle.meaning.specs.Yard.{reaches, climb}
+use Rattle.meaning.specs.declared.Walk.{Walk}
+use Rattle.meaning.specs.declared.Walk.the-variants.{Arrives, Never}
+use Rattle.meaning.specs.Yard.{reaches, climb, climbed, levelBy}
 use Rattle.meaning.specs.Words.{most}
-use Rattle.meaning.proofs.Turns.{most-one}
-use Rattle.meaning.proofs.Walk.{probe-yes, probe-below, probe-past, reaches-here, climb-here, reaches-on, climb-on, climb-most, climb-never}
-use Rattle.walk.specs.declared.Walk.{Walk}
-use Rattle.walk.specs.declared.Walk.the-variants.{Arrives, Never}
-use Rattle.meaning.specs.Yard.{levelBy}
-use Rattle.walk.specs.Climbed.{climbed}
+use Rattle.laws.proofs.Turns.{most-one}
+use Rattle.laws.proofs.Walk.{probe-yes, probe-below, probe-past, reaches-here, climb-here, reaches-on, climb-on, climb-most, climb-never}
 
 -- the parents that a table by node says
 abbrev pub parentIn : List ℕ → ℕ → ℕ

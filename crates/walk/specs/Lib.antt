@@ -1,2 +1,2 @@
 -- What this crate's contracts cite beside the meaning.
-pub mod Climbed
+pub mod Levels

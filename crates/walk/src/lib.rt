@@ -3,20 +3,14 @@ ghost use mathlib.Core.Path.{_≡_};
 ghost use Prim.Native.Nat.{_*_, _≤_};
 ghost use lib.ListN.{getD};
 ghost use Rattle.meaning.specs.Words.{mostProbes};
-ghost use Rattle.meaning.specs.Yard.{hopsOf};
-ghost use Rattle.walk.specs.Climbed.{climbed, levelsBy};
-ghost use Rattle.meaning.specs.Yard.{levelBy};
+ghost use Rattle.meaning.specs.Yard.{climbed, levelBy, hopsOf};
+ghost use Rattle.walk.specs.Levels.{levelsBy};
 use meaning::Level;
-use meaning::Probe;
+use meaning::Node;
+use meaning::Walk;
 
-// Where a walk to parents ends.
-pub enum Walk {
-    Arrives(Level),
-    Never,
-}
-
-// The level of a probe whose walk has `left` hops to take.
-pub fn climb(parents: &[u8; 65], v: Probe, left: u8) -> Walk
+// Where the walk from a node ends, which has `left` hops to take.
+pub fn climb(parents: &[u8; 65], v: Node, left: u8) -> Walk
     ensures { λ r. ⌜ r ≡ climbed (λ u. getD (now (parents .entry)) u 0) left (v .0) ⌝ }
 {
     let node = v.0;
@@ -26,26 +20,27 @@ pub fn climb(parents: &[u8; 65], v: Probe, left: u8) -> Walk
     if left == 0 {
         return Walk::Never;
     }
-    let parent = meaning::number_at(parents, node as usize);
-    match climb(parents, Probe(parent), left - 1) {
+    let parent = laws::number_at(parents, node as usize);
+    match climb(parents, Node(parent), left - 1) {
         Walk::Arrives(level) => Walk::Arrives(Level(level.0 + 1)),
         Walk::Never => Walk::Never,
     }
 }
 
 // The level of a node, 0 if it is no probe; p hops are enough for any walk that arrives.
-fn level_at(parents: &[u8; 65], p: u8, v: u8) -> u8
-    ensures { λ r. ⌜ r ≡ levelBy p (λ u. getD (now (parents .entry)) u 0) v ⌝ }
+fn level_at(parents: &[u8; 65], p: u8, v: Node) -> Level
+    ensures { λ r. ⌜ r .0 ≡ levelBy p (λ u. getD (now (parents .entry)) u 0) (v .0) ⌝ }
 {
-    if v < 2 {
-        return 0;
+    let node = v.0;
+    if node < 2 {
+        return Level(0);
     }
-    if p < v - 1 {
-        return 0;
+    if p < node - 1 {
+        return Level(0);
     }
-    match climb(parents, Probe(v), p) {
-        Walk::Arrives(level) => level.0,
-        Walk::Never => p,
+    match climb(parents, v, p) {
+        Walk::Arrives(level) => level,
+        Walk::Never => Level(p),
     }
 }
 
@@ -56,7 +51,8 @@ pub fn levels(parents: &[u8; 65], p: u8) -> [u8; 65]
     let mut levels = [0u8; 65];
     let mut v: u8 = 0;
     while v < 65 {
-        levels[v as usize] = level_at(parents, p, v);
+        let level = level_at(parents, p, Node(v));
+        levels[v as usize] = level.0;
         v += 1;
     }
     levels
@@ -67,7 +63,7 @@ fn hops_at(packets: &[u8; 65], levels: &[u8; 65], v: usize) -> u32
     ensures { λ r. ⌜ r ≡ getD (now (packets .entry)) v 0 * getD (now (levels .entry)) v 0 ⌝ }
     ensures { λ r. ⌜ r ≤ 65025 ⌝ }
 {
-    meaning::number_at(packets, v) as u32 * meaning::number_at(levels, v) as u32
+    laws::number_at(packets, v) as u32 * laws::number_at(levels, v) as u32
 }
 
 // The sum over all probes of packets times level.
@@ -90,7 +86,7 @@ pub fn depth(p: u8, levels: &[u8; 65]) -> Level
     let mut deepest: u8 = 0;
     let mut k: u8 = 0;
     while k < p {
-        let level = meaning::number_at(levels, k as usize + 2);
+        let level = laws::number_at(levels, k as usize + 2);
         if deepest < level {
             deepest = level;
         }

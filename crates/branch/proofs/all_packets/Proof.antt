@@ -4,7 +4,7 @@ use mathlib.Core.Path.{_≡_, refl, sym, ap₂, _∙_}
 use Prim.Native.Nat.{_+_, _-_, _*_, _≤_}
 use lib.ListN.{getD}
 use Rattle.meaning.specs.Words.{sum}
-use Rattle.meaning.proofs.Turns.{sum-one}
+use Rattle.laws.proofs.Turns.{sum-one}
 use native.Mathlib.Omega.{arith}
 use borrow.Author.Needs.{needs}
 use Rattle.branch.proofs.all_packets.Statement.{statement}

@@ -1,19 +1,21 @@
--- `branch::branch` meets its contract. The invariant: so far it is the sum over the first k probes, each at most 255. The measure is what is left of p.
--- Assumes nothing.
+-- `branch::branch` meets its contract. The invariant: so far it is the sum over the first k probes, each at most 255; one past the table adds
+-- nothing. The measure is what is left of p. Assumes nothing.
 use mathlib.Core.Path.{_≡_, refl, sym, ap₂, _∙_}
+use mathlib.Core.Logic.{⊎-elim}
 use mathlib.Core.Bool.{cond}
 use Prim.Native.Nat.{_+_, _-_, _*_, _≤_}
 use lib.ListN.{getD}
 use Rattle.meaning.specs.Words.{sum}
 use Rattle.meaning.specs.Yard.{reaches}
-use Rattle.meaning.proofs.Turns.{sum-one}
+use Rattle.laws.proofs.Turns.{sum-one}
+use Rattle.branch.proofs.Walking.{sum-past}
 use native.Mathlib.Omega.{arith}
 use borrow.Author.Needs.{needs}
 use Rattle.branch.proofs.branch.Statement.{statement}
 use Rattle.branch.proofs.branch.Tie as tie
 
 abbrev Inv-loop : tie.InvT-loop
-Inv-loop p parents packets top all₀ k₀ all k = (k ≤ p) × (all ≡ sum k (λ i. cond (reaches (λ u. getD parents u 0) top p (i + 2)) (getD packets (i + 2) 0) 0)) × (all ≤ 255 * k)
+Inv-loop p parents packets top all₀ k₀ all k = (k ≤ p) × (all ≡ sum k (λ i. cond (reaches (λ u. getD parents u 0) (top .0) p (i + 2)) (getD packets (i + 2) 0) 0)) × (all ≤ 255 * k)
 
 abbrev μ-loop : tie.MeasureT-loop
 μ-loop p parents packets top all₀ k₀ all k = p - k
@@ -22,11 +24,8 @@ loop-holds : tie.Need-loop-holds Inv-loop μ-loop
 unfolding sum
 loop-holds c = (omega arith, refl, omega arith)
 
-cast-brought : tie.Need-cast-brought Inv-loop μ-loop
-cast-brought c = search needs
-
-add-brought : tie.Need-add-brought Inv-loop μ-loop
-add-brought c = search needs
+add-t9 : tie.Need-add-t9 Inv-loop μ-loop
+add-t9 c = search needs
 
 brought-requires : tie.Need-brought-requires Inv-loop μ-loop
 brought-requires c κs = search needs
@@ -45,8 +44,11 @@ loop-less c = search needs
 
 loop-again : tie.Need-loop-again Inv-loop μ-loop
 loop-again c =
+    let start = c .before .before .before in
     let turn = c .before .before .loop in
-    (omega arith, ap₂ _+_ (turn .inv .1) (c .brought .ensures) ∙ sym (sum-one _ _), omega arith)
+    ⊎-elim (λ w. (omega arith, w .2 ∙ ap₂ _+_ (turn .inv .1) (w .1 .ensures) ∙ sym (sum-one _ _), omega arith))
+    (λ w. (omega arith, w .1 ∙ sum-past (start .args .parents .now) (start .args .packets .now) (start .pre) (start .args .p) (start .args .top .0) (turn .k) _ (w .0 .left) (turn .inv .1), omega arith))
+    (c .if1 .came)
 
 returns : tie.Need-returns Inv-loop μ-loop
 returns c =
@@ -61,8 +63,7 @@ branch-spec =
     Inv-loop
     μ-loop
     loop-holds
-    cast-brought
-    add-brought
+    add-t9
     brought-requires
     cast-all
     add-all

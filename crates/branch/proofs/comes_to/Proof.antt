@@ -3,7 +3,7 @@
 use mathlib.Core.Path.{_≡_, refl, sym, _∙_}
 use lib.ListN.{getD}
 use Rattle.meaning.specs.Yard.{reaches}
-use Rattle.meaning.proofs.Walk.{reaches-here}
+use Rattle.laws.proofs.Walk.{reaches-here}
 use Rattle.branch.proofs.Walking.{comes-last, comes-on}
 use native.Mathlib.Omega.{arith}
 use borrow.Author.Needs.{needs}
@@ -11,10 +11,16 @@ use Rattle.branch.proofs.comes_to.Statement.{statement}
 use Rattle.branch.proofs.comes_to.Tie as tie
 
 abbrev Inv-loop : tie.InvT-loop
-Inv-loop parents top hops v node₀ left₀ node left = reaches (λ u. getD parents u 0) top left node ≡ reaches (λ u. getD parents u 0) top hops v
+Inv-loop parents hops end node₀ left₀ node left = reaches (λ u. getD parents u 0) end left node ≡ reaches (λ u. getD parents u 0) end hops node₀
 
 abbrev μ-loop : tie.MeasureT-loop
-μ-loop parents top hops v node₀ left₀ node left = left
+μ-loop parents hops end node₀ left₀ node left = left
+
+cast-end : tie.Need-cast-end Inv-loop μ-loop
+cast-end c = search needs
+
+cast-node : tie.Need-cast-node Inv-loop μ-loop
+cast-node c = search needs
 
 loop-holds : tie.Need-loop-holds Inv-loop μ-loop
 loop-holds c = refl
@@ -27,8 +33,8 @@ returns c =
 number-at-requires : tie.Need-number-at-requires Inv-loop μ-loop
 number-at-requires c κs = search needs
 
-cast-node : tie.Need-cast-node Inv-loop μ-loop
-cast-node c = search needs
+cast-node-2 : tie.Need-cast-node-2 Inv-loop μ-loop
+cast-node-2 c = search needs
 
 sub-left : tie.Need-sub-left Inv-loop μ-loop
 sub-left c = search needs
@@ -52,10 +58,12 @@ comes-to-spec =
     (tie.spec
     Inv-loop
     μ-loop
+    cast-end
+    cast-node
     loop-holds
     returns
     number-at-requires
-    cast-node
+    cast-node-2
     sub-left
     loop-less
     loop-again

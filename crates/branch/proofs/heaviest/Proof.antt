@@ -1,11 +1,14 @@
--- `branch::heaviest` meets its contract. The invariant: so far it is the most over the first k tops. The measure is what is left of p.
--- Assumes nothing.
-use mathlib.Core.Path.{_≡_, refl}
+-- `branch::heaviest` meets its contract. The invariant: so far it is the most over the first k tops; one that is no byte has an empty branch.
+-- The measure is what is left of p. Assumes nothing.
+use mathlib.Core.Path.{_≡_, refl, _∙_}
+use mathlib.Core.Logic.{⊎-elim}
 use Prim.Native.Nat.{_+_, _-_, _≤_}
-use lib.ListN.{getD}
-use Rattle.meaning.specs.Words.{most}
+use lib.ListN.{length, getD}
+use mir.Val.{Fits}
+use mir.Syntax.{w8}
+use Rattle.meaning.specs.Words.{places, most}
 use Rattle.meaning.specs.Yard.{branchPackets}
-use Rattle.branch.proofs.Walking.{most-next}
+use Rattle.branch.proofs.Walking.{most-next, most-past}
 use native.Mathlib.Omega.{arith}
 use borrow.Author.Needs.{needs}
 use Rattle.branch.proofs.heaviest.Statement.{statement}
@@ -21,11 +24,8 @@ loop-holds : tie.Need-loop-holds Inv-loop μ-loop
 unfolding most
 loop-holds c = (omega arith, refl)
 
-cast-branch : tie.Need-cast-branch Inv-loop μ-loop
-cast-branch c = search needs
-
-add-branch : tie.Need-add-branch Inv-loop μ-loop
-add-branch c = search needs
+add-t12 : tie.Need-add-t12 Inv-loop μ-loop
+add-t12 c = search needs
 
 branch-requires : tie.Need-branch-requires Inv-loop μ-loop
 branch-requires c κs = search needs
@@ -41,8 +41,14 @@ loop-less c = search needs
 
 loop-again : tie.Need-loop-again Inv-loop μ-loop
 loop-again c =
-    let turn = c .before .before .before .before .before .loop in
-    (omega arith, most-next (turn .k) _ _ _ _ (turn .inv .1) (c .before .branch .ensures) (c .larger .ensures))
+    let a = c .before .before .before .args in
+    let turn = c .before .before .loop in
+    let long : length (a .t3) ≡ places = search needs in (
+      omega arith,
+      ⊎-elim (λ w. most-next (turn .k) _ _ _ _ (turn .inv .1) (w .3 .ensures) (w .5 ∙ w .4 .ensures))
+          (λ w. w .1 ∙ most-past (a .t2) (a .t3) long (a .p) (λ v. let byte : Fits w8 (getD (a .t2) v 0) = search needs in byte .fits) (turn .k) _ (w .0 .left) (turn .inv .1))
+          (c .if1 .came),
+    )
 
 returns : tie.Need-returns Inv-loop μ-loop
 returns c =
@@ -57,8 +63,7 @@ heaviest-spec =
     Inv-loop
     μ-loop
     loop-holds
-    cast-branch
-    add-branch
+    add-t12
     branch-requires
     larger-requires
     add-k

@@ -8,7 +8,7 @@ use borrow.Author.Needs.{needs}
 use lib.ListN.{length, take, length-set}
 use Rattle.meaning.specs.Conflict.{entry}
 use Rattle.meaning.specs.Words.{tab}
-use Rattle.meaning.proofs.Turns.{tab-next}
+use Rattle.laws.proofs.Turns.{tab-next}
 use Rattle.conflict.specs.Heard.{eitherWay}
 use Rattle.conflict.proofs.Tables.{filled}
 use Rattle.conflict.proofs.Hearing.{no-row, own-row}

@@ -6,7 +6,7 @@ use native.Mathlib.Omega.{arith}
 use borrow.Author.Needs.{needs}
 use lib.ListN.{length, take, length-set}
 use Rattle.meaning.specs.Words.{tab, places}
-use Rattle.meaning.proofs.Turns.{tab-next}
+use Rattle.laws.proofs.Turns.{tab-next}
 use Rattle.conflict.specs.Heard.{heardRow}
 use Rattle.conflict.proofs.Tables.{filled}
 use Rattle.conflict.proofs.heard_table.Statement.{statement}

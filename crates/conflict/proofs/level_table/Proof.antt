@@ -31,8 +31,8 @@ mul-row c = search needs
 array-copy-out-row : tie.Need-array-copy-out-row Inv-loop μ-loop
 array-copy-out-row c = search needs
 
-array-read-mark-levels : tie.Need-array-read-mark-levels Inv-loop μ-loop
-array-read-mark-levels c = search needs
+array-read-a : tie.Need-array-read-a Inv-loop μ-loop
+array-read-a c = search needs
 
 mark-levels-requires : tie.Need-mark-levels-requires Inv-loop μ-loop
 mark-levels-requires c κs = search needs
@@ -71,7 +71,7 @@ level-table-spec =
     add-x
     mul-row
     array-copy-out-row
-    array-read-mark-levels
+    array-read-a
     mark-levels-requires
     add-k
     loop-less

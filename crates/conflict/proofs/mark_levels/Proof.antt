@@ -14,7 +14,7 @@ use Rattle.conflict.proofs.mark_levels.Statement.{statement}
 use Rattle.conflict.proofs.mark_levels.Tie as tie
 
 abbrev Inv-loop : tie.InvT-loop
-Inv-loop t₀ p a levels row n k₀ t k = (k ≤ p) × (t ≡ levelsMarked k (λ v. getD levels v 0) (λ y. getD row y false) a t₀)
+Inv-loop t₀ p a levels row n k₀ t k = (k ≤ p) × (t ≡ levelsMarked k (λ v. getD levels v 0) (λ y. getD row y false) (a .0) t₀)
 
 abbrev μ-loop : tie.MeasureT-loop
 μ-loop t₀ p a levels row n k₀ t k = p - k
@@ -47,8 +47,8 @@ loop-again c =
     let now = c .before .before .loop .inv .1 in
     let long : length (s .args .t4) ≡ 65 = search needs in (
       omega arith,
-      ⊎-elim (λ w. w .5 ∙ w .4 .ensures ∙ turn-other _ _ _ _ _ _ now (w .1 .taken) (w .2 .taken))
-          (⊎-elim (λ w. w .3 ∙ turn-own _ _ _ _ _ _ now (w .1 .taken) (w .2 .left))
+      ⊎-elim (λ w. w .6 ∙ w .5 .ensures ∙ turn-other _ _ _ _ _ _ now (w .1 .taken) (w .3 .taken))
+          (⊎-elim (λ w. w .4 ∙ turn-own _ _ _ _ _ _ now (w .1 .taken) (w .3 .left))
           (⊎-elim (λ w. w .2 ∙ turn-none _ _ _ _ _ _ now (w .1 .left))
           (λ w. w .1 ∙ turn-none _ _ _ _ _ _ now (List·getD-eq-default (s .args .t4) false (omega arith)))))
           (c .if1 .came),

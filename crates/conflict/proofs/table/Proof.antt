@@ -11,7 +11,7 @@ use lib.ListN.{length, getD, take, length-set}
 use Rattle.meaning.specs.Sheet.{interfere}
 use Rattle.meaning.specs.Conflict.{entry}
 use Rattle.meaning.specs.Words.{tab, places}
-use Rattle.meaning.proofs.Turns.{tab-next}
+use Rattle.laws.proofs.Turns.{tab-next}
 use Rattle.conflict.specs.Heard.{ofProbe, eitherWay}
 use Rattle.conflict.proofs.Hearing.{conflict-rows}
 use Rattle.conflict.proofs.Tables.{filled}

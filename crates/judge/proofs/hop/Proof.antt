@@ -1,6 +1,6 @@
 -- `judge::hop` meets its contract: the code is the definition, and no node holds more than all packets together. Assumes nothing.
 use lib.ListN.{getD}
-use Rattle.meaning.proofs.Moving.{less-few}
+use Rattle.laws.proofs.Moving.{less-few}
 use native.Mathlib.Omega.{arith}
 use borrow.Author.Needs.{needs}
 use Rattle.judge.proofs.hop.Statement.{statement}

@@ -4,8 +4,8 @@ use mathlib.Core.List.{List}
 use Prim.Native.Nat.{ℕ, _-_, _≤_}
 use lib.ListN.{length, getD, take}
 use Rattle.meaning.specs.Rounds.{hop, moved}
-use Rattle.meaning.proofs.Moving.{weigh, Sender}
-use Rattle.meaning.proofs.Sending.{none-sent, now-long, now-kept, still-sender, send-one, all-sent}
+use Rattle.laws.proofs.Moving.{weigh, Sender}
+use Rattle.laws.proofs.Sending.{none-sent, now-long, now-kept, still-sender, send-one, all-sent}
 use native.Mathlib.Omega.{arith}
 use borrow.Author.Needs.{needs}
 use Rattle.judge.proofs.move_packets.Statement.{statement}

@@ -8,7 +8,7 @@ use lib.Dec.{ltb}
 use lib.ListN.{length, getD}
 use Rattle.meaning.specs.Words.{some}
 use Rattle.meaning.specs.Conflict.{entry}
-use Rattle.meaning.proofs.Turns.{some-found}
+use Rattle.laws.proofs.Turns.{some-found}
 use Rattle.judge.proofs.Looking.{Looking, looking-starts, looking-on, looking-found, looking-ends, looking-above, looking-last}
 use native.Mathlib.Omega.{arith}
 use borrow.Author.Needs.{needs}

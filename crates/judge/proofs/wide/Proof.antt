@@ -4,7 +4,7 @@ use mathlib.Core.Path.{_≡_, refl, _∙_, subst}
 use Prim.Native.Nat.{ℕ, _-_, _≤_}
 use lib.ListN.{length, getD, take, length-set}
 use Rattle.meaning.specs.Words.{tab}
-use Rattle.meaning.proofs.Turns.{tab-next, tab-full, tab-of}
+use Rattle.laws.proofs.Turns.{tab-next, tab-full, tab-of}
 use native.Mathlib.Omega.{arith}
 use borrow.Author.Needs.{needs}
 use Rattle.judge.proofs.wide.Statement.{statement}

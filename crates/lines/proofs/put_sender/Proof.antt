@@ -7,11 +7,14 @@ use borrow.Author.Needs.{needs}
 use Rattle.lines.proofs.put_sender.Statement.{statement}
 use Rattle.lines.proofs.put_sender.Tie as tie
 
+cast-n : tie.Need-cast-n
+cast-n c = search needs
+
 slice-aggregate-put-said : tie.Need-slice-aggregate-put-said
 slice-aggregate-put-said c = search needs
 
 put-said-requires : tie.Need-put-said-requires
-put-said-requires c κs = omega (arith, c .before .before .before .pre, sender-length (c .before .before .before .args .v))
+put-said-requires c κs = omega (arith, c .before .before .before .before .pre, sender-length (c .before .before .before .before .args .v .0))
 
 same-length : tie.Need-same-length
 same-length c = search needs
@@ -22,4 +25,4 @@ returns c = c .before .before .put-said .ensures
 
 pub put-sender-spec : {M : Type 1} → statement M
 put-sender-spec =
-    tie.close (tie.spec slice-aggregate-put-said put-said-requires same-length returns)
+    tie.close (tie.spec cast-n slice-aggregate-put-said put-said-requires same-length returns)

@@ -9,10 +9,10 @@ use Rattle.lines.proofs.slot_fits.Statement.{statement}
 use Rattle.lines.proofs.slot_fits.Tie as tie
 
 abbrev Inv-loop : tie.InvT-loop
-Inv-loop number senders room around left₀ i₀ left i = (i ≤ length senders) × Fits number senders room left i
+Inv-loop senders room n around left₀ i₀ left i = (i ≤ length senders) × Fits n senders room left i
 
 abbrev μ-loop : tie.MeasureT-loop
-μ-loop number senders room around left₀ i₀ left i = length senders - i
+μ-loop senders room n around left₀ i₀ left i = length senders - i
 
 digits-requires : tie.Need-digits-requires Inv-loop μ-loop
 digits-requires c κs = search needs

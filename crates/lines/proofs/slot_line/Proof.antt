@@ -16,13 +16,13 @@ slot-fits-requires c κs = search needs
 returns : tie.Need-returns
 returns c =
     let a = c .before .before .before .before .args in
-    line-short _ (slotLine (a .number) (a .senders .now)) (slot-short _ _ _ _ (c .before .slot-fits .ensures) (c .if1 .taken))
+    line-short _ (slotLine (a .number .0) (a .senders .now)) (slot-short _ _ _ _ (c .before .slot-fits .ensures) (c .if1 .taken))
 
 put-digits-requires : tie.Need-put-digits-requires
 put-digits-requires c κs =
     let start = c .before .before .before .before .before .args in
-    let room = slot-room (start .number) (start .senders .now) (length (start .out .now)) _ (c .before .before .slot-fits .ensures) (c .before .if1 .left) in
-    let long = slot-length (start .number) (start .senders .now) in
+    let room = slot-room (start .number .0) (start .senders .now) (length (start .out .now)) _ (c .before .before .slot-fits .ensures) (c .before .if1 .left) in
+    let long = slot-length (start .number .0) (start .senders .now) in
     omega (arith, room, long)
 
 slice-aggregate-put-text : tie.Need-slice-aggregate-put-text
@@ -31,16 +31,16 @@ slice-aggregate-put-text c = search needs
 put-text-requires : tie.Need-put-text-requires
 put-text-requires c κs =
     let start = c .before .before .before .before .before .before .before .before .before .before .args in
-    let room = slot-room (start .number) (start .senders .now) (length (start .out .now)) _ (c .before .before .before .before .before .before .before .slot-fits .ensures) (c .before .before .before .before .before .before .if1 .left) in
-    let long = slot-length (start .number) (start .senders .now) in
+    let room = slot-room (start .number .0) (start .senders .now) (length (start .out .now)) _ (c .before .before .before .before .before .before .before .slot-fits .ensures) (c .before .before .before .before .before .before .if1 .left) in
+    let long = slot-length (start .number .0) (start .senders .now) in
     let number = c .before .before .before .before .put-digits .ensures in
     omega (arith, room, long, number .ends, put-long number)
 
 put-senders-requires : tie.Need-put-senders-requires
 put-senders-requires c κs =
     let start = c .before .before .before .before .before .before .before .before .before .before .before .before .before .before .args in
-    let room = slot-room (start .number) (start .senders .now) (length (start .out .now)) _ (c .before .before .before .before .before .before .before .before .before .before .before .slot-fits .ensures) (c .before .before .before .before .before .before .before .before .before .before .if1 .left) in
-    let long = slot-length (start .number) (start .senders .now) in
+    let room = slot-room (start .number .0) (start .senders .now) (length (start .out .now)) _ (c .before .before .before .before .before .before .before .before .before .before .before .slot-fits .ensures) (c .before .before .before .before .before .before .before .before .before .before .if1 .left) in
+    let long = slot-length (start .number .0) (start .senders .now) in
     let number = c .before .before .before .before .before .before .before .before .put-digits .ensures in
     let colon = c .before .before .before .put-text .ensures in
     omega (arith, room, long, number .ends, put-long number, colon .ends, put-long colon)
@@ -51,8 +51,8 @@ slice-aggregate-put-text-2 c = search needs
 put-text-requires-2 : tie.Need-put-text-requires-2
 put-text-requires-2 c κs =
     let start = c .before .before .before .before .before .before .before .before .before .before .before .before .before .before .before .before .before .before .before .args in
-    let room = slot-room (start .number) (start .senders .now) (length (start .out .now)) _ (c .before .before .before .before .before .before .before .before .before .before .before .before .before .before .before .before .slot-fits .ensures) (c .before .before .before .before .before .before .before .before .before .before .before .before .before .before .before .if1 .left) in
-    let long = slot-length (start .number) (start .senders .now) in
+    let room = slot-room (start .number .0) (start .senders .now) (length (start .out .now)) _ (c .before .before .before .before .before .before .before .before .before .before .before .before .before .before .before .before .slot-fits .ensures) (c .before .before .before .before .before .before .before .before .before .before .before .before .before .before .before .if1 .left) in
+    let long = slot-length (start .number .0) (start .senders .now) in
     let number = c .before .before .before .before .before .before .before .before .before .before .before .before .before .put-digits .ensures in
     let colon = c .before .before .before .before .before .before .before .before .put-text .ensures in
     let senders = c .before .before .before .before .put-senders .ensures in

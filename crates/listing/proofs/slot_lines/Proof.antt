@@ -22,8 +22,8 @@ loop-holds c =
 senders-at-requires : tie.Need-senders-at-requires Inv-loop μ-loop
 senders-at-requires c κs = search needs
 
-add-slot-line : tie.Need-add-slot-line Inv-loop μ-loop
-add-slot-line c = search needs
+add-t10 : tie.Need-add-t10 Inv-loop μ-loop
+add-t10 c = search needs
 
 sub-slot-line : tie.Need-sub-slot-line Inv-loop μ-loop
 sub-slot-line c = listing-within (c .before .before .loop .inv)
@@ -89,7 +89,7 @@ slot-lines-spec =
     μ-loop
     loop-holds
     senders-at-requires
-    add-slot-line
+    add-t10
     sub-slot-line
     part-slot-line-start
     part-slot-line-end

@@ -5,7 +5,7 @@ use mathlib.Core.Bool.{Bool, false, _||_}
 use Prim.Native.Nat.{ℕ, _-_, _≤_}
 use lib.ListN.{getD}
 use Rattle.meaning.specs.Words.{some, places}
-use Rattle.meaning.proofs.Turns.{some-one}
+use Rattle.laws.proofs.Turns.{some-one}
 use native.Mathlib.Omega.{arith}
 use borrow.Author.Needs.{needs}
 use Rattle.plan.proofs.any_of.Statement.{statement}

@@ -7,7 +7,7 @@ use borrow.Author.Tests.{lt-ltb, le-ltb}
 use lib.ListN.{getD}
 use Rattle.meaning.specs.Words.{some, someProbe}
 use Rattle.meaning.specs.Rounds.{holds}
-use Rattle.meaning.proofs.Turns.{some-found, some-one}
+use Rattle.laws.proofs.Turns.{some-found, some-one}
 use native.Mathlib.Omega.{arith}
 use borrow.Author.Needs.{needs}
 use Rattle.plan.proofs.any_outside.Statement.{statement}

@@ -8,7 +8,7 @@ use lib.ListN.{length, getD}
 use Rattle.meaning.specs.Words.{places}
 use Rattle.meaning.specs.Conflict.{entry}
 use Rattle.meaning.specs.Rounds.{clashes}
-use Rattle.meaning.proofs.Turns.{length-tab}
+use Rattle.laws.proofs.Turns.{length-tab}
 use Rattle.plan.proofs.Choosing.{not-allowed, not-free, taken}
 use borrow.Author.Needs.{needs}
 use Rattle.plan.proofs.consider.Statement.{statement}

@@ -1,7 +1,7 @@
 -- `plan::hop` meets its contract: the code is the definition, and no node holds more than all packets together.
 -- Assumes nothing.
 use lib.ListN.{getD}
-use Rattle.meaning.proofs.Moving.{less-few}
+use Rattle.laws.proofs.Moving.{less-few}
 use native.Mathlib.Omega.{arith}
 use borrow.Author.Needs.{needs}
 use Rattle.plan.proofs.hop.Statement.{statement}

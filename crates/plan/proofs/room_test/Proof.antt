@@ -2,7 +2,7 @@
 -- Assumes nothing.
 use mathlib.Core.Path.{sym}
 use borrow.Author.Tests.{ne-eqb}
-use Rattle.meaning.proofs.Accepted.{then-stays}
+use Rattle.laws.proofs.Accepted.{then-stays}
 use Rattle.plan.proofs.Preparing.{room-short, room-enough}
 use native.Mathlib.Omega.{arith}
 use borrow.Author.Needs.{needs}

@@ -3,7 +3,7 @@
 use mathlib.Core.Path.{_≡_, refl, _∙_}
 use Prim.Native.Nat.{_-_}
 use lib.ListN.{length, getD}
-use Rattle.meaning.proofs.Turns.{tab-of}
+use Rattle.laws.proofs.Turns.{tab-of}
 use Rattle.plan.proofs.Lists.{Becoming, becoming-start, becoming-next, becoming-whole}
 use native.Mathlib.Omega.{arith}
 use borrow.Author.Needs.{needs}

@@ -8,7 +8,7 @@ use Prim.Native.Nat.{ℕ, _+_, _-_, _<_}
 use lib.ListN.{length, getD, set, length-set}
 use Rattle.meaning.specs.Conflict.{entry}
 use Rattle.meaning.specs.Rounds.{holds, joined}
-use Rattle.meaning.proofs.Turns.{length-tab}
+use Rattle.laws.proofs.Turns.{length-tab}
 use Rattle.plan.proofs.Free.{freeBy, free-start, free-says, free-pass, free-put}
 use Rattle.plan.proofs.Writing.{Writing, writing-start, writing-pass, writing-put, written, one-more, fewer, long}
 use native.Mathlib.Omega.{arith}

@@ -4,7 +4,7 @@ use mathlib.Core.Path.{_≡_, refl}
 use Prim.Native.Nat.{_≤_, _<_, _-_}
 use lib.ListN.{length, take, length-set}
 use Rattle.meaning.specs.Words.{tab}
-use Rattle.meaning.proofs.Turns.{tab-next, tab-full}
+use Rattle.laws.proofs.Turns.{tab-next, tab-full}
 use Rattle.sheet.specs.Yard.{recordByte}
 use borrow.Author.Needs.{needs}
 use Rattle.sheet.proofs.by_node.Statement.{statement}

@@ -5,7 +5,7 @@ use mathlib.Core.Path.{_≡_, ap}
 use Prim.Native.Nat.{ℕ, _+_, _*_, _/_, _≤_}
 use lib.ListN.{length}
 use Rattle.meaning.specs.Sheet.{probeCount, pairCountAt}
-use Rattle.meaning.proofs.Accepted.{pairs-of-few}
+use Rattle.laws.proofs.Accepted.{pairs-of-few}
 use Rattle.sheet.proofs.Counts.{Possible, empty-sheet, many-probes, no-pair-count, many-pairs, too-short, too-long, counts-passed}
 use borrow.Author.Needs.{needs}
 use Rattle.sheet.proofs.counts_number.Statement.{statement}

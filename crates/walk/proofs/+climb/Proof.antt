@@ -9,7 +9,7 @@ use Rattle.walk.proofs.Climbing.{climbed-here, climbed-none, climbed-on
 use Rattle.walk.proofs.climb.Reads as climb
 use Rattle.walk.proofs.climb.Kinds as climb-kinds
 use Rattle.walk.proofs.+climb.Lts-climb as climb-lts
-use Rattle.meaning.proofs.number_at.Reads as number-at
+use Rattle.laws.proofs.number_at.Reads as number-at
 use Rattle.walk.proofs.+climb.{statement}
 use Rattle.walk.proofs.+climb.Tie.{close}
 

@@ -6,7 +6,7 @@ use native.Mathlib.Omega.{arith}
 use lib.ListN.{getD}
 use borrow.Author.Needs.{needs}
 use Rattle.meaning.specs.Words.{sum}
-use Rattle.meaning.proofs.Turns.{sum-one}
+use Rattle.laws.proofs.Turns.{sum-one}
 use Rattle.walk.proofs.hops.Statement.{statement}
 use Rattle.walk.proofs.hops.Tie as tie
 

@@ -6,7 +6,7 @@ use native.Mathlib.Omega.{arith}
 use lib.ListN.{length, take, length-set}
 use borrow.Author.Needs.{needs}
 use Rattle.meaning.specs.Words.{tab}
-use Rattle.meaning.proofs.Turns.{tab-next, tab-full}
+use Rattle.laws.proofs.Turns.{tab-next, tab-full}
 use Rattle.meaning.specs.Yard.{levelBy}
 use Rattle.walk.proofs.Climbing.{parentIn}
 use Rattle.walk.proofs.levels.Statement.{statement}

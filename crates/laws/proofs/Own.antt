@@ -1,0 +1,373 @@
+-- Our own plans pass. Each slot that a turn makes is legal; while a packet is outside, a round makes a slot, so that the hops are rounds enough;
+-- and each slot takes a hop at least, so that the slots are no more than the hops. Then the judge, being exact, passes the plan. This goes for any way
+-- whose owners have the four facts of `Fair`, and then for the two ways. Assumes nothing.
+use mathlib.Core.Path.{_≡_, refl, sym, ap, ap₂, _∙_, subst}
+use mathlib.Core.Bool.{Bool, true, false, cond, _&&_}
+use mathlib.Core.List.{List, [], _∷_}
+use mathlib.Core.Logic.{_⊎_, inl, inr, ⊎-elim}
+use Prim.Native.Nat.{ℕ, zero, suc, _+_, _-_, _*_, _≤_, _<_}
+use native.Mathlib.Decide.{decLt}
+use native.Mathlib.Omega.{arith}
+use borrow.Author.Tests.{ltb-true, eqb-true, eq-eqb}
+use lib.Dec.{eqb}
+use lib.ListN.{length, getD, replicate, length-append, List·getD-eq-default}
+use Rattle.meaning.specs.Words.{forEach, someProbe, tab, places}
+use Rattle.meaning.specs.Yard.{isProbe}
+use Rattle.meaning.specs.Sheet.{probeCount, parentOf, packetsOf, levelOf, hops}
+use Rattle.meaning.specs.Conflict.{entry, conflictTable}
+use Rattle.meaning.specs.Colour.{coloursUsed, probeColours, levelColours, depth}
+use Rattle.meaning.specs.Plan.{slotBytes, planBytes, roomFor}
+use Rattle.meaning.specs.Rounds.{holds, outside, joined, ownersByProbe, ownersByLevel, moved, Progress, recorded, Way, slotFor, round, rounds, before, byProbe, byLevel, slotsOf}
+use Rattle.meaning.specs.Answer.{accepted, isAccepted, sheetTest}
+use Rattle.meaning.specs.Judge.{judge}
+use Rattle.meaning.specs.Legal.{Legal, heldAfter, Runs, heldFirst, Arrived, Good}
+use Rattle.laws.proofs.Turns.{below-or-last, forEach-keeps, some-found, some-where, length-tab, getD-tab}
+use Rattle.laws.proofs.Walk.{not-both, probe-yes, probe-least, probe-most}
+use Rattle.laws.proofs.Moving.{Each, length-moved}
+use Rattle.laws.proofs.Slots.{Only, and-left, and-right, never, true-or-false, only-joined, each-slot, rising-slot}
+use Rattle.laws.proofs.Accepted.{accepted-yard}
+use Rattle.laws.proofs.Exact.{table-clash, slot-bytes-append, held-append, runs-append, none-outside, good-passed}
+use Rattle.laws.proofs.Joining.{Chosen, Free, nobody-chosen, joined-long, free-joined, one-joined, each-chosen, owned-slot}
+use Rattle.laws.proofs.Grounds.{level-least, hopsLeft, first-left, hops-most}
+use Rattle.laws.proofs.Running.{each-at, rising-at, none-left, legal-left}
+use Rattle.laws.proofs.Levels.{most-holds, table-conflicts, probes-proper, level-deep, depth-most, levels-proper}
+
+-- what the owners of a colour's slot have to be: flags by node, each of which holds, no two of which conflict; and whoever holds a packet, some
+-- colour has an owner
+pub record Fair (s : List ℕ) (owners : ℕ → (ℕ → Bool) → List Bool) (colours : ℕ) : Type 0 where
+  pub long : (c : ℕ) (may : ℕ → Bool) → length (owners c may) ≡ places
+  pub only : (c : ℕ) (may : ℕ → Bool) → Only may (owners c may)
+  pub free : (c : ℕ) (may : ℕ → Bool) → Free (entry (conflictTable s)) (owners c may)
+  pub served : (may : ℕ → Bool) (v : ℕ) → isProbe (probeCount s) v ≡ true → may v ≡ true
+      → (c : ℕ) × (c < colours) × (someProbe (probeCount s) (λ u. getD (owners (c + 1) may) u false) ≡ true)
+
+-- a way over the sheet's own probes, parents and conflicts
+abbrev pub wayOver : List ℕ → (ℕ → (ℕ → Bool) → List Bool) → ℕ → Way
+wayOver s owners colours =
+    record { probes = probeCount s; parent = parentOf s; relation = entry (conflictTable s); owners = owners; colours = colours }
+
+-- what is true of a plan of our own: it is good, the judge passes it and counts its slots, and they and their bytes are no more than the hops allow
+pub record OwnPlan (s : List ℕ) (way : Way) : Type 0 where
+  pub good : Good s (planBytes (slotsOf s way))
+  pub passed : judge s (planBytes (slotsOf s way)) ≡ record { outcome = accepted; slots = length (slotsOf s way) }
+  pub few : length (slotsOf s way) ≤ hops s
+  pub room : length (planBytes (slotsOf s way)) ≤ roomFor (hops s)
+
+module _ (s : List ℕ) (ok : isAccepted (sheetTest s) ≡ true) (owners : ℕ → (ℕ → Bool) → List Bool) (colours : ℕ) (fair : Fair s owners colours) where
+  abbrev way : Way
+  way = wayOver s owners colours
+
+  abbrev left : List ℕ → ℕ
+  left held = hopsLeft s ok held
+
+  few : probeCount s ≤ 63
+  few = accepted-yard s ok .few
+
+  one-slot : (slot : List ℕ) → length (slotBytes (slot ∷ [])) ≡ 1 + length slot
+  unfolding slotBytes
+  one-slot slot = omega (arith, length-append slot [])
+
+  -- the slot of a colour is legal
+  slot-legal : (c : ℕ) (held : List ℕ) → Legal s held (slotFor way c (holds held))
+  slot-legal c held =
+      record {
+        probes =
+            λ i h.
+            let at = each-at _ slot each i h in
+            probe-yes (probeCount s) (getD slot i 0) (at .1) (omega (arith, at .2));
+        rising = rising-at 1 slot (rising-slot (probeCount s) (entry (conflictTable s)) (holds held) (owners c (holds held)));
+        holding = λ i h. ltb-true 0 (getD held (getD slot i 0) 0) (each-at _ slot each i h .0);
+        apart =
+            λ i j h l.
+            sym (table-clash s ok (getD slot i 0) (getD slot j 0))
+            ∙ free-joined (entry (conflictTable s)) (holds held) 2 (probeCount s) (table-conflicts s ok) (omega (arith, few)) (probeCount s)
+            (owners c (holds held)) (fair .free c (holds held)) (getD slot i 0) (getD slot j 0)
+            (each-at _ slot chosen i (omega arith)) (each-at _ slot chosen j l);
+      }
+    where
+      slot : List ℕ
+      slot = slotFor way c (holds held)
+
+      each : Each (λ v. (holds held v ≡ true) × (2 ≤ v) × (v < probeCount s + 2)) slot
+      each = each-slot (probeCount s) (entry (conflictTable s)) (holds held) (owners c (holds held)) (fair .only c (holds held))
+
+      chosen : Each (Chosen (joined (probeCount s) (entry (conflictTable s)) (holds held) (owners c (holds held)))) slot
+      chosen = each-chosen (entry (conflictTable s)) (holds held) (probeCount s) (owners c (holds held))
+
+  -- how far a plan has come: its slots run, and each has taken a hop at least
+  record Going (now : Progress) : Type 0 where
+    long : length (now .held) ≡ places
+    runs : Runs s (heldFirst s) (now .slots)
+    after : heldAfter s (heldFirst s) (now .slots) ≡ now .held
+    fewer : length (now .slots) + left (now .held) ≤ hops s
+    shorter : length (slotBytes (now .slots)) + 2 * left (now .held) ≤ 2 * hops s
+
+  going-first : Going (before (packetsOf s))
+  unfolding Runs heldAfter slotBytes
+  going-first =
+      record {
+        long = length-tab places (packetsOf s);
+        runs = tt;
+        after = refl;
+        fewer = omega (arith, first-left s ok);
+        shorter = omega (arith, first-left s ok);
+      }
+
+  going-next : (slot : List ℕ) (now : Progress) → Going now → Legal s (now .held) slot → Going (recorded (parentOf s) slot now)
+  unfolding recorded Runs heldAfter
+  going-next [] now going legal = going
+  going-next (v ∷ slot) now going legal =
+      record {
+        long = length-moved (parentOf s) (v ∷ slot) (now .held) ∙ going .long;
+        runs =
+            runs-append s (heldFirst s) (now .slots) ((v ∷ slot) ∷ []) (going .runs)
+            (subst (λ (held : List ℕ). Legal s held (v ∷ slot)) (sym (going .after)) legal, tt);
+        after =
+            held-append s (heldFirst s) (now .slots) ((v ∷ slot) ∷ []) ∙ ap (λ (held : List ℕ). moved (parentOf s) (v ∷ slot) held) (going .after);
+        fewer =
+            omega (
+              arith,
+              going .fewer,
+              length-append (now .slots) ((v ∷ slot) ∷ []),
+              legal-left s ok (now .held) (v ∷ slot) legal (going .long),
+            );
+        shorter =
+            omega (
+              arith,
+              going .shorter,
+              ap length (slot-bytes-append (now .slots) ((v ∷ slot) ∷ [])) ∙ length-append (slotBytes (now .slots)) (slotBytes ((v ∷ slot) ∷ [])),
+              one-slot (v ∷ slot),
+              legal-left s ok (now .held) (v ∷ slot) legal (going .long),
+            );
+      }
+
+  -- a slot that is made takes hops away
+  left-next : (slot : List ℕ) (now : Progress) → Going now → Legal s (now .held) slot
+      → left (recorded (parentOf s) slot now .held) + length slot ≡ left (now .held)
+  unfolding recorded
+  left-next [] now going legal = omega arith
+  left-next (v ∷ slot) now going legal = legal-left s ok (now .held) (v ∷ slot) legal (going .long)
+
+  none-recorded : (slot : List ℕ) (now : Progress) → length slot ≡ 0 → recorded (parentOf s) slot now ≡ now
+  unfolding recorded
+  none-recorded [] now e = refl
+  none-recorded (v ∷ slot) now e = absurd (omega arith)
+
+  -- one turn of a round
+  abbrev slotAt : ℕ → Progress → List ℕ
+  slotAt k now = slotFor way (k + 1) (holds (now .held))
+
+  abbrev turn : ℕ → Progress → Progress
+  turn k now = recorded (parentOf s) (slotAt k now) now
+
+  going-turn : (k : ℕ) (now : Progress) → Going now → Going (turn k now)
+  going-turn k now going = going-next (slotAt k now) now going (slot-legal (k + 1) (now .held))
+
+  module _ (now : Progress) (going : Going now) where
+    going-turns : (n : ℕ) → Going (forEach n turn now)
+    going-turns n = forEach-keeps Going n turn now going (λ k _ was h. going-turn k was h)
+
+    going-round : Going (round way now)
+    unfolding round
+    going-round = going-turns colours
+
+    -- as far as turn n of a round hops have been taken away, or nothing has happened and the colour c that has an owner is still to come
+    module _ (c : ℕ) (owned : someProbe (probeCount s) (λ u. getD (owners (c + 1) (holds (now .held))) u false) ≡ true) where
+      falls : (n : ℕ) → (left (forEach n turn now .held) < left (now .held)) ⊎ ((forEach n turn now ≡ now) × (n ≤ c))
+      unfolding forEach
+      falls zero = inr (refl, omega arith)
+      falls (suc n) =
+          ⊎-elim
+          (λ less. inl (omega (arith, left-next (slotAt n was) was (going-turns n) (slot-legal (n + 1) (was .held)), less)))
+          (λ still. made still (length (slotAt n was)) refl)
+          (falls n)
+        where
+          was : Progress
+          was = forEach n turn now
+
+          made : (was ≡ now) × (n ≤ c) → (m : ℕ) → length (slotAt n was) ≡ m
+              → (left (turn n was .held) < left (now .held)) ⊎ ((turn n was ≡ now) × (suc n ≤ c))
+          made still (suc m) e =
+              inl (
+              omega (
+                arith,
+                left-next (slotAt n was) was (going-turns n) (slot-legal (n + 1) (was .held)),
+                ap (λ (then : Progress). left (then .held)) (still .0),
+              ))
+          made still zero e = inr (
+            none-recorded (slotAt n was) was e ∙ still .0,
+            ⊎-elim (λ (l : n < c). l)
+                (λ (l : n ≡ c).
+                absurd
+                (omega (
+                  arith,
+                  e,
+                  ap₂ (λ (k : ℕ) (then : Progress). length (slotAt k then)) l (still .0),
+                  owned-slot (probeCount s) (entry (conflictTable s)) (holds (now .held)) (owners (c + 1) (holds (now .held))) (omega (arith, few))
+                      (fair .long (c + 1) (holds (now .held))) owned,
+                )))
+                (below-or-last n c (omega (arith, still .1))),
+          )
+
+      round-falls : c < colours → left (round way now .held) < left (now .held)
+      unfolding round
+      round-falls h = ⊎-elim (λ less. less) (λ still. absurd (omega (arith, still .1))) (falls colours)
+
+  -- after n rounds nothing is outside, or n hops are made
+  record Gone (n : ℕ) (now : Progress) : Type 0 where
+    going : Going now
+    nearer : (outside (probeCount s) (now .held) ≡ false) ⊎ (left (now .held) + n ≤ hops s)
+
+  gone : (n : ℕ) → Gone n (rounds way n (before (packetsOf s)))
+  unfolding rounds forEach
+  gone zero = record { going = going-first; nearer = inr (omega (arith, first-left s ok)) }
+  gone (suc n) = go (rounds way n (before (packetsOf s))) (gone n)
+    where
+      go : (now : Progress) → Gone n now → Gone (suc n) (cond (outside (probeCount s) (now .held)) (round way now) now)
+      go now so = on (outside (probeCount s) (now .held)) refl
+        where
+          on : (b : Bool) → outside (probeCount s) (now .held) ≡ b → Gone (suc n) (cond b (round way now) now)
+          on false e = record { going = so .going; nearer = inl e }
+          on true e =
+              let holder = some-where (probeCount s) (λ k. holds (now .held) (k + 2)) e in
+              let v : ℕ = holder .0 + 2 in
+              let probe = probe-yes (probeCount s) v (omega arith) (omega (arith, holder .1)) in
+              let colour = fair .served (holds (now .held)) v probe (holder .2) in
+              let less = round-falls now (so .going) (colour .0) (colour .2) (colour .1) in
+              record {
+                going = going-round now (so .going);
+                nearer = ⊎-elim (λ none. not-both e none) (λ near. inr (omega (arith, less, near))) (so .nearer);
+              }
+
+  -- so the hops are rounds enough
+  last : Progress
+  last = rounds way (hops s) (before (packetsOf s))
+
+  end : Gone (hops s) last
+  unfolding last
+  end = gone (hops s)
+
+  all-in : Arrived s (last .held)
+  all-in = ⊎-elim (λ none. none-outside s (last .held) none) (λ near. none-left s ok (last .held) (omega (arith, near))) (end .nearer)
+
+  good : Good s (planBytes (slotsOf s way))
+  unfolding slotsOf last
+  good =
+      record {
+        sheet = ok;
+        slots = slotsOf s way;
+        few = omega (arith, end .going .fewer, hops-most s ok);
+        written = refl;
+        runs = end .going .runs;
+        arrived = subst (λ (held : List ℕ). Arrived s held) (sym (end .going .after)) all-in;
+      }
+
+  pub own-plan : OwnPlan s way
+  unfolding slotsOf last good
+  own-plan =
+      record {
+        good = good;
+        passed = good-passed s (planBytes (slotsOf s way)) good;
+        few = omega (arith, end .going .fewer);
+        room = omega (arith, end .going .shorter);
+      }
+
+-- what stands in a list by node was put there
+chosen-tab : (f : ℕ → Bool) (v : ℕ) → getD (tab places f) v false ≡ true → f v ≡ true
+chosen-tab f v e = go (decLt v places)
+  where
+    go : Dec (v < places) → f v ≡ true
+    go (yes l) = sym (getD-tab places f v false l) ∙ e
+    go (no l) = never (sym (List·getD-eq-default (tab places f) false {n = v} (rw (length-tab places f) (omega arith))) ∙ e)
+
+module _ (s : List ℕ) (ok : isAccepted (sheetTest s) ≡ true) where
+  small : probeCount s ≤ 63
+  small = accepted-yard s ok .few
+
+  -- v, as a probe counted from 0
+  counted : (v : ℕ) → isProbe (probeCount s) v ≡ true → (v - 2 + 2 ≡ v) × (v - 2 < probeCount s)
+  counted v h =
+      let least = probe-least (probeCount s) v h in
+      let last = probe-most (probeCount s) v h in
+      (omega arith, omega arith)
+
+  abbrev probeColour : ℕ → ℕ
+  probeColour v = getD (probeColours s) v 0
+
+  abbrev levelColour : ℕ → ℕ
+  levelColour v = getD (levelColours s) (levelOf s v) 0
+
+  -- by probe: those of one colour do not conflict, and each is an owner of its own
+  by-probe-fair : Fair s (ownersByProbe probeColour) (coloursUsed (probeColours s))
+  unfolding ownersByProbe
+  by-probe-fair =
+      record {
+        long = λ c may. length-tab places _;
+        only = λ c may v e. and-right (eqb (probeColour v) c) (may v) (chosen-tab _ v e);
+        free =
+            λ c may x y hx hy.
+            let x-has = eqb-true (probeColour x) c (and-left (eqb (probeColour x) c) (may x) (chosen-tab _ x hx)) in
+            let y-has = eqb-true (probeColour y) c (and-left (eqb (probeColour y) c) (may y) (chosen-tab _ y hy)) in
+            ⊎-elim (λ (r : entry (conflictTable s) x y ≡ true). absurd (probes-proper s ok .apart x y r (x-has ∙ sym y-has)))
+            (λ (r : entry (conflictTable s) x y ≡ false). r)
+            (true-or-false (entry (conflictTable s) x y));
+        served =
+            λ may v probe m.
+            let its = counted v probe in
+            let from : 1 ≤ probeColour v = probes-proper s ok .inside v (probe-least (probeCount s) v probe) (omega (arith, probe-most (probeCount s) v probe)) in
+            let node : v < places = omega (arith, its .0, its .1, small) in (
+              probeColour v - 1,
+              omega (arith, from, most-holds places probeColour v node),
+              some-found (probeCount s) _ (v - 2) (its .1)
+                  (subst
+                  (λ (u : ℕ). getD (tab places (λ w. eqb (probeColour w) (probeColour v - 1 + 1) && may w)) u false ≡ true)
+                  (sym (its .0))
+                  (getD-tab places _ v false node
+                  ∙ ap₂ _&&_ (eq-eqb (probeColour v) (probeColour v - 1 + 1) (omega arith)) m)),
+            );
+      }
+
+  pub by-probe-plan : OwnPlan s (byProbe s)
+  unfolding byProbe
+  by-probe-plan = own-plan s ok (ownersByProbe probeColour) (coloursUsed (probeColours s)) by-probe-fair
+
+  -- by level: those that are taken one after the other do not conflict, and where one of a colour holds a packet one of that colour is taken
+  by-level-fair : Fair s (ownersByLevel (probeCount s) (entry (conflictTable s)) levelColour) (coloursUsed (levelColours s))
+  unfolding ownersByLevel
+  by-level-fair =
+      record {
+        long = λ c may. joined-long (entry (conflictTable s)) _ (probeCount s) (replicate places false);
+        only =
+            λ c may v e.
+            and-right (eqb (levelColour v) c) (may v)
+            (only-joined (probeCount s) (entry (conflictTable s)) _ (replicate places false) (λ u h. never (sym (nobody-chosen places u) ∙ h)) v e);
+        free =
+            λ c may.
+            free-joined (entry (conflictTable s)) _ 2 (probeCount s) (table-conflicts s ok) (omega (arith, small)) (probeCount s) (replicate places false)
+            (λ x y hx hy. never (sym (nobody-chosen places x) ∙ hx));
+        served =
+            λ may v probe m.
+            let its = counted v probe in
+            let l : ℕ = levelOf s v in
+            let deep : l ≤ depth s = subst (λ (u : ℕ). levelOf s u ≤ depth s) (its .0) (level-deep s ok (v - 2) (its .1)) in
+            let from : 1 ≤ levelColour v = levels-proper s ok .inside l (level-least s ok v probe) (omega arith) in (
+              levelColour v - 1,
+              omega (arith, from, most-holds places (λ u. getD (levelColours s) u 0) l (omega (arith, deep, depth-most s ok, small))),
+              one-joined (entry (conflictTable s)) (λ u. eqb (levelColour u) (levelColour v - 1 + 1) && may u) 2
+                  (probeCount s) (table-conflicts s ok) (omega (arith, small)) (probeCount s) (v - 2) (replicate places false) refl (its .1) (omega arith)
+                  (omega arith) (omega (arith, its .1, small))
+                  (subst (λ (u : ℕ). (eqb (levelColour u) (levelColour v - 1 + 1) && may u) ≡ true) (sym (its .0))
+                  (ap₂ _&&_ (eq-eqb (levelColour v) (levelColour v - 1 + 1) (omega arith)) m)),
+            );
+      }
+
+  pub by-level-plan : OwnPlan s (byLevel s)
+  unfolding byLevel
+  by-level-plan = own-plan s ok (ownersByLevel (probeCount s) (entry (conflictTable s)) levelColour) (coloursUsed (levelColours s)) by-level-fair
+
+  -- the judge passes our plans of an accepted sheet, and counts their slots
+  pub by-probe-passed : judge s (planBytes (slotsOf s (byProbe s))) ≡ record { outcome = accepted; slots = length (slotsOf s (byProbe s)) }
+  by-probe-passed = by-probe-plan .passed
+
+  pub by-level-passed : judge s (planBytes (slotsOf s (byLevel s))) ≡ record { outcome = accepted; slots = length (slotsOf s (byLevel s)) }
+  by-level-passed = by-level-plan .passed
