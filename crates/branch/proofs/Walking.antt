@@ -1,5 +1,4 @@
 -- A hop of a walk, the larger of two, and a turn that adds nothing: each goes by what the definitions say of one step.
--- Assumes nothing.
 use mathlib.Core.Path.{_≡_, refl, sym, ap, ap₂, _∙_}
 use mathlib.Core.Bool.{Bool, true, false, cond}
 use mathlib.Core.List.{List}

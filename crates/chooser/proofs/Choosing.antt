@@ -1,4 +1,4 @@
--- The choice between two verdicts, test by test as the code takes it; and what a choice hands back. Assumes nothing.
+-- The choice between two verdicts, test by test as the code takes it; and what a choice hands back.
 use mathlib.Core.Path.{_≡_, ap₂, _∙_, subst}
 use mathlib.Core.List.{List}
 use Prim.Native.Nat.{ℕ, _≤_, _<_}

@@ -1,5 +1,4 @@
 -- Laws of what a parent hears: the test of a probe, what the rows of the code say of two probes, and that a conflict is one that is heard.
--- Assumes nothing.
 use mathlib.Core.Path.{_≡_, refl, sym, ap, ap₂, _∙_}
 use mathlib.Core.Bool.{Bool, true, false, cond, not, _&&_, _||_, or-true}
 use mathlib.Core.List.{List, []}

@@ -1,5 +1,4 @@
 -- Laws of marks in a table: a mark adds one pair to the relation that the table is made of.
--- Assumes nothing.
 use mathlib.Core.Path.{_≡_, refl, sym, ap, _∙_, subst}
 use mathlib.Core.Bool.{Bool, true, false, cond, not, _&&_, _||_, and-comm, or-comm, and-false, or-false, or-assoc, and-or-distrib-left}
 use mathlib.Core.List.{List, [], _∷_, _++_}

@@ -11,14 +11,6 @@ ghost use Rattle.conflict.specs.Marks.{rowsOf, marked, levelsMarked};
 ghost use Rattle.conflict.specs.Heard.{probeAt, ofProbe, heardIn, heardRow, eitherWay};
 use meaning::Level;
 
-// The number of a node in a list by node, 0 outside the list.
-fn number_of(list: &[u8; 65], v: usize) -> u8
-    requires { ⌜ length (now list) ≡ places ⌝ }
-    ensures { λ r. ⌜ r ≡ getD (now (list .entry)) v 0 ⌝ }
-{
-    if v < 65 { list[v] } else { 0 }
-}
-
 // A number and a node are a pair from now on; a node that has no place is left out.
 fn pair(t: &mut [[bool; 65]; 256], a: u8, b: u8)
     ensures { λ _. ⌜ now (t .exit) ≡ marked 256 (now (t .entry)) a b ⌝ }
@@ -108,9 +100,16 @@ fn heard_at(
     if v == 0 {
         return [false; 65];
     }
-    let up = number_of(parents, x);
+    let up = laws::number_at(parents, x);
     let i = up as usize;
-    heard(probes, parents, &pairs[i], v, up, number_of(parents, i))
+    heard(
+        probes,
+        parents,
+        &pairs[i],
+        v,
+        up,
+        laws::number_at(parents, i),
+    )
 }
 
 // Whom the parent of each probe hears.

@@ -1,5 +1,5 @@
 -- Document 01: after each slot the packets in probes and gateway together equal the sheet's total, whatever the plan. Each turn keeps them, so all
--- turns do; and what the nodes hold before the first slot is what the probes have. Assumes nothing.
+-- turns do; and what the nodes hold before the first slot is what the probes have.
 use mathlib.Core.Path.{_≡_, _∙_}
 use mathlib.Core.Bool.{Bool, true, false, cond}
 use mathlib.Core.List.{List}

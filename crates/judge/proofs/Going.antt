@@ -1,4 +1,4 @@
--- The judge's loop over slots, as far as slot k: what it has come to is what the definition comes to, and nothing is wrong yet. Assumes nothing.
+-- The judge's loop over slots, as far as slot k: what it has come to is what the definition comes to, and nothing is wrong yet.
 use mathlib.Core.Path.{_≡_, refl, sym, ap, _∙_}
 use mathlib.Core.Bool.{Bool, cond}
 use mathlib.Core.List.{List}

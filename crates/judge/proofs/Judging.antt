@@ -1,5 +1,5 @@
--- The whole verdict, stage by stage as the code takes it: `o` is what a stage answered. Assumes nothing.
-use mathlib.Core.Path.{_≡_, refl, sym, ap, ap₂, _∙_, subst, fun-ext}
+-- The whole verdict, stage by stage as the code takes it: `o` is what a stage answered.
+use mathlib.Core.Path.{_≡_, refl, sym, ap, ap₂, _∙_, subst₃}
 use mathlib.Core.Bool.{Bool, true, false, cond}
 use mathlib.Core.List.{List}
 use Prim.Native.Nat.{ℕ, _≤_, _<_}
@@ -15,12 +15,14 @@ use Rattle.meaning.specs.Conflict.{entry, tableOf, conflict, conflictTable}
 use Rattle.meaning.specs.Rounds.{outside}
 use Rattle.meaning.specs.Answer.{accepted, isAccepted, given, _then_, sheetTest}
 use Rattle.meaning.specs.Judge.{Judging, slotsJudged, planJudgedBy, planJudged, judge}
-use Rattle.laws.proofs.Turns.{length-tab, getD-places}
-use Rattle.laws.proofs.Walk.{probe-past}
-use Rattle.laws.proofs.Accepted.{accepted-yard, then-stays, then-goes, parent-outside}
+use Rattle.laws.proofs.Turns.{length-tab}
+use Rattle.laws.proofs.Accepted.{then-stays, then-goes}
 use Rattle.laws.proofs.Grounds.{few-probes, few-packets, parent-node}
-use Rattle.sheet.specs.declared.Yard.{Yard}
-use Rattle.sheet.specs.Yard.{refusedYard, yardOf}
+use Rattle.slot.specs.Test.{atMost63}
+use Rattle.slot.proofs.Tests.{as-many}
+use Rattle.sheet.specs.declared.Tree.{Tree}
+use Rattle.sheet.specs.Tree.{treeOf}
+use Rattle.sheet.proofs.Standing.{Standing, standing, outcome-read, parents-read, conflicts-read}
 use Rattle.judge.specs.Turn.{judgingFrom, Ready, refusedVerdict}
 use Rattle.judge.proofs.Going.{come}
 
@@ -49,13 +51,16 @@ module _ (p : ℕ) (parent : ℕ → ℕ) (relation : ℕ → ℕ → Bool) (pac
         in
         is ∙ here ∙ staged
 
-    module _ (all : length plan ≤ at) (left : Bool) (leftIs : left ≡ outside p held) where
+    module _ (few : p ≤ 63) (all : length plan ≤ at) (left : Bool) (leftIs : left ≡ outside (atMost63 p) held) where
+      left-read : left ≡ outside p held
+      left-read = leftIs ∙ ap (λ (n : ℕ). outside n held) (as-many p few)
+
       -- 17
       pub gives-17 : (r : Outcome) → r ≡ record { number = 17; place = many } → left ≡ true → r ≡ planJudgedBy p parent relation packets plan
       unfolding behind _then_
       gives-17 r is some =
           let here : record { number = 17; place = many } ≡ behind (come o at held) =
-          simp (manyIs, eq-eqb (o .number) 0 none, le-ltb at (length plan) all, sym leftIs ∙ some)
+          simp (manyIs, eq-eqb (o .number) 0 none, le-ltb at (length plan) all, sym left-read ∙ some)
           in
           is ∙ here ∙ staged
 
@@ -63,80 +68,46 @@ module _ (p : ℕ) (parent : ℕ → ℕ) (relation : ℕ → ℕ → Bool) (pac
       unfolding behind _then_
       gives-0 r is none-left =
           let here : accepted ≡ behind (come o at held) =
-          simp (eq-eqb (o .number) 0 none, le-ltb at (length plan) all, sym leftIs ∙ none-left)
+          simp (eq-eqb (o .number) 0 none, le-ltb at (length plan) all, sym left-read ∙ none-left)
           in
           is ∙ here ∙ staged
-
--- what an accepted sheet is read as
-abbrev yard : List ℕ → Yard
-yard s = record { outcome = sheetTest s; probes = probeCount s; parents = tab places (parentOf s); packets = tab places (packetsOf s) }
 
 meant : (s plan : List ℕ) → planJudgedBy (probeCount s) (parentOf s) (entry (conflictTable s)) (tab places (packetsOf s)) plan ≡ planJudged s plan
 unfolding planJudgedBy planJudged
 meant s plan = refl
 
--- the yard that the code has read is the sheet's
-module _ (s : List ℕ) (y : Yard) (is : y ≡ yardOf s) where
-  pub outcome-read : y .outcome ≡ sheetTest s
-  unfolding yardOf
-  outcome-read = ap (λ (z : Yard). z .outcome) is ∙ go (isAccepted (sheetTest s))
-    where
-      go : (b : Bool) → cond b (yard s) (refusedYard (sheetTest s)) .outcome ≡ sheetTest s
-      go true = refl
-      go false = refl
+-- the tree that the code has read is the sheet's
+module _ (s : List ℕ) (tree : Tree) (is : tree ≡ treeOf s) (none : tree .outcome .number ≡ 0) where
+  pub sheet-accepted : isAccepted (sheetTest s) ≡ true
+  sheet-accepted = ap (λ (o : Outcome). isAccepted o) (sym (outcome-read s tree is)) ∙ eq-eqb (tree .outcome .number) 0 none
 
-  module _ (none : y .outcome .number ≡ 0) where
-    pub sheet-accepted : isAccepted (sheetTest s) ≡ true
-    sheet-accepted = ap (λ (o : Outcome). isAccepted o) (sym outcome-read) ∙ eq-eqb (y .outcome .number) 0 none
+  its : Standing s tree
+  its = standing s sheet-accepted tree is
 
-    whole : y ≡ yard s
-    unfolding yardOf
-    whole = is ∙ ap (λ (b : Bool). cond b (yard s) (refusedYard (sheetTest s))) sheet-accepted
+  parent : (λ (v : ℕ). getD (tree .parents) v 0) ≡ parentOf s
+  parent = parents-read s sheet-accepted tree its
 
-    pub probes-read : y .probes ≡ probeCount s
-    probes-read = ap (λ (z : Yard). z .probes) whole
+  -- what the slots count on
+  pub ready-read : Ready (tree .probes) (λ u. getD (tree .parents) u 0) (tree .packets)
+  ready-read =
+      subst₃ (λ (p : ℕ) (up : ℕ → ℕ) (held : List ℕ). Ready p up held) (sym (its .probes)) (sym parent) (sym (its .packets))
+      (record {
+        few = few-probes s sheet-accepted;
+        parents = parent-node s sheet-accepted;
+        long = length-tab places (packetsOf s);
+        packets = few-packets s sheet-accepted;
+      })
 
-    pub packets-read : y .packets ≡ tab places (packetsOf s)
-    packets-read = ap (λ (z : Yard). z .packets) whole
-
-    -- the parents, read at any number
-    pub parents-read : (λ (v : ℕ). getD (y .parents) v 0) ≡ parentOf s
-    parents-read =
-        fun-ext
-        (λ v.
-        ap (λ (z : Yard). getD (z .parents) v 0) whole
-        ∙ getD-places (parentOf s) 0
-        (λ u past. let few = accepted-yard s sheet-accepted .few in parent-outside s u (probe-past (probeCount s) u (omega arith))) v)
-
-    -- what the slots count on
-    pub ready-read : Ready (y .probes) (λ u. getD (y .parents) u 0) (y .packets)
-    ready-read =
-        subst (λ (l : List ℕ). Ready (y .probes) (λ u. getD (y .parents) u 0) l) (sym packets-read)
-        (subst (λ (parent : ℕ → ℕ). Ready (y .probes) parent (tab places (packetsOf s))) (sym parents-read)
-        (subst (λ (p : ℕ). Ready p (parentOf s) (tab places (packetsOf s))) (sym probes-read)
-        (record {
-          few = few-probes s sheet-accepted;
-          parents = parent-node s sheet-accepted;
-          long = length-tab places (packetsOf s);
-          packets = few-packets s sheet-accepted;
-        })))
-
-    -- the table of conflicts
-    pub table-read : (table : List (List Bool)) (records : List ℕ) (q : ℕ) → records ≡ pairRecords s → q ≡ pairCount s
-        → table ≡ tableOf (conflict (y .probes) (λ v. getD (y .parents) v 0) (interfere records q)) → table ≡ conflictTable s
-    unfolding conflictTable
-    table-read table records q recordsIs qIs is =
-        is
-        ∙ ap₂ (λ (p : ℕ) (parent : ℕ → ℕ). tableOf (conflict p parent (interfere records q))) probes-read parents-read
-        ∙ ap₂ (λ (l : List ℕ) (n : ℕ). tableOf (conflict (probeCount s) (parentOf s) (interfere l n))) recordsIs qIs
-
-    -- the plan's own tests
-    pub plan-read : (table : List (List Bool)) (plan : List ℕ) → table ≡ conflictTable s
-        → planJudgedBy (y .probes) (λ u. getD (y .parents) u 0) (entry table) (y .packets) plan ≡ planJudged s plan
-    plan-read table plan is =
-        ap₂ (λ (p : ℕ) (parent : ℕ → ℕ). planJudgedBy p parent (entry table) (y .packets) plan) probes-read parents-read
-        ∙ ap₂ (λ (t : List (List Bool)) (l : List ℕ). planJudgedBy (probeCount s) (parentOf s) (entry t) l plan) is packets-read
-        ∙ meant s plan
+  -- the plan's own tests
+  pub plan-read : (table : List (List Bool)) (plan : List ℕ) (o : Outcome)
+      → table ≡ tableOf (conflict (tree .probes) (λ v. getD (tree .parents) v 0) (interfere (pairRecords s) (pairCount s)))
+      → o ≡ planJudgedBy (tree .probes) (λ u. getD (tree .parents) u 0) (entry table) (tree .packets) plan → o ≡ planJudged s plan
+  plan-read table plan o made answer =
+      answer
+      ∙ ap₂ (λ (p : ℕ) (up : ℕ → ℕ). planJudgedBy p up (entry table) (tree .packets) plan) (its .probes) parent
+      ∙ ap₂ (λ (t : List (List Bool)) (l : List ℕ). planJudgedBy (probeCount s) (parentOf s) (entry t) l plan)
+      (conflicts-read s sheet-accepted tree its table made) (its .packets)
+      ∙ meant s plan
 
 -- the verdict
 module _ (s plan : List ℕ) where

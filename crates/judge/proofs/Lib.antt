@@ -1,7 +1,4 @@
 -- Laws that the proofs of the judge's functions cite, and what holds of the judging itself.
-pub mod Places
-pub mod Looking
-pub mod Tests
 pub mod Turning
 pub mod Conserved
 pub mod Going

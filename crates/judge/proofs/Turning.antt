@@ -1,14 +1,13 @@
 -- The turn of one slot: it passes and its packets move, or it is refused and nothing moves; and the ways that the code goes through it.
--- Assumes nothing.
 use mathlib.Core.Path.{_≡_, refl, sym, ap, ap₂, _∙_}
 use mathlib.Core.Bool.{Bool, true, false, cond}
 use mathlib.Core.List.{List}
 use mathlib.Core.Logic.{_⊎_, inl, inr, ⊎-elim}
-use Prim.Native.Nat.{ℕ, _+_, _-_, _≤_, _<_}
+use Prim.Native.Nat.{ℕ, _≤_, _<_}
 use native.Mathlib.Omega.{arith}
 use borrow.Author.Tests.{ltb-false, lt-ltb, le-ltb, eq-eqb, ne-eqb}
 use lib.Dec.{ltb}
-use lib.ListN.{length, getD, take, drop}
+use lib.ListN.{length}
 use Rattle.meaning.specs.declared.Outcome.{Outcome}
 use Rattle.meaning.specs.Words.{places}
 use Rattle.meaning.specs.Rounds.{moved}
@@ -16,11 +15,15 @@ use Rattle.meaning.specs.Answer.{isAccepted, given, _then_}
 use Rattle.meaning.specs.Judge.{nextAt, sendersAt, slotTest, Judging, slotJudged}
 use Rattle.laws.proofs.Moving.{weigh, length-moved, kept}
 use Rattle.laws.proofs.Accepted.{then-goes, then-accepted, given-accepted}
-use Rattle.judge.specs.declared.SlotAt.{SlotAt}
-use Rattle.judge.specs.Slot.{slotAt}
+use Rattle.slot.specs.declared.SlotAt.{SlotAt}
+use Rattle.slot.specs.Place.{slotAt}
+use Rattle.slot.specs.Test.{atMost63}
+use Rattle.slot.specs.Move.{movedWithin}
+use Rattle.slot.proofs.Places.{lent, next-read, slot-read}
+use Rattle.slot.proofs.Tests.{as-many}
+use Rattle.slot.proofs.Senders.{rising, sender-at, sending}
+use Rattle.slot.proofs.Moving.{moved-within}
 use Rattle.judge.specs.Turn.{judgingFrom, Ready}
-use Rattle.judge.proofs.Places.{slot-within}
-use Rattle.judge.proofs.Tests.{Passed, passed, rising, sending}
 
 module _ (p : ℕ) (parent : ℕ → ℕ) (relation : ℕ → ℕ → Bool) (plan : List ℕ) (place : ℕ) (now : Judging) where
   abbrev slot : List ℕ
@@ -81,60 +84,58 @@ module _ (p : ℕ) (parent : ℕ → ℕ) (relation : ℕ → ℕ → Bool) (pla
   turn-kept ready =
       ⊎-elim
       (λ (w : Passes).
-      let ok : Passed p relation (now .held) place slot = passed p relation (now .held) place slot (w .tested) in
       ap (weigh (λ _. 1)) (w .moves)
       ∙ kept parent 1 slot (now .held) (ready .long)
-      (rising p parent relation (now .held) place slot (ready .few) (ready .parents) ok)
-      (sending p parent relation (now .held) place slot (ready .few) (ready .parents) ok))
+      (rising p parent relation (now .held) place slot (ready .few) (ready .parents) (w .tested))
+      (sending p parent relation (now .held) place slot (ready .few) (ready .parents) (w .tested)))
       (λ (w : Refused). ap (weigh (λ _. 1)) (w .rests))
       turn
 
--- the slot as the code has read it: where it stands, and the part that is lent from the middle of the plan
-module _ (plan : List ℕ) (at : ℕ) (here : SlotAt) (is : here ≡ slotAt plan at) (inside : at ≤ length plan) where
-  first-read : here .first ≡ at + 1
-  first-read = ap (λ (x : SlotAt). x .first) (is ∙ slot-within plan at inside)
+-- the ways of the code through a turn, with where it has read the slot and what it answers
+module _ (plan : List ℕ) (at : ℕ) (here : SlotAt) (is : here ≡ slotAt plan at) (inside : at ≤ length plan) (p : ℕ) (parent : ℕ → ℕ)
+    (relation : ℕ → ℕ → Bool) (place : ℕ) (held : List ℕ) (o : Outcome) where
+  abbrev whole : Judging
+  whole = slotJudged p parent relation plan place (judgingFrom at held)
 
-  next-read : here .next ≡ nextAt plan at
-  next-read = ap (λ (x : SlotAt). x .next) (is ∙ slot-within plan at inside)
+  abbrev senders : List ℕ
+  senders = sendersAt plan at
 
-  pub part-read : here .first ≤ here .next
-  part-read = omega (arith, first-read, next-read)
+  -- 11: the slot runs past the end
+  pub turn-short : o ≡ record { number = 11; place = place } → length plan < here .next → record { outcome = o; at = at; held = held } ≡ whole
+  unfolding slotJudged _then_
+  turn-short told short =
+      let past : ltb (length plan) (nextAt plan at) ≡ true = lt-ltb (length plan) (nextAt plan at) (omega (arith, next-read plan at here is inside)) in
+      simp (past, told)
 
-  abbrev pub lent : List ℕ
-  lent = take (here .next - here .first) (drop (here .first) plan)
+  module _ (within : here .next ≤ length plan) (ready : Ready p parent held)
+      (tested : o ≡ slotTest (atMost63 p) relation held place (lent plan here)) where
+    test-read : o ≡ slotTest p relation held place senders
+    test-read =
+        tested ∙ ap₂ (λ (n : ℕ) (slot : List ℕ). slotTest n relation held place slot) (as-many p (ready .few)) (slot-read plan at here is inside)
 
-  slot-read : lent ≡ sendersAt plan at
-  slot-read =
-      let many : here .next - here .first ≡ getD plan at 0 = omega (arith, first-read, next-read) in
-      ap₂ (λ (m from : ℕ). take m (drop from plan)) many first-read
+    behind : (given 11 place (ltb (length plan) (nextAt plan at)) then slotTest p relation held place senders) ≡ o
+    behind =
+        then-goes _ (slotTest p relation held place senders)
+        (ap (λ (b : Bool). isAccepted (given 11 place b)) (le-ltb (length plan) (nextAt plan at) (omega (arith, next-read plan at here is inside))))
+        ∙ sym test-read
 
-  -- the ways of the code through a turn, with what it answers
-  module _ (p : ℕ) (parent : ℕ → ℕ) (relation : ℕ → ℕ → Bool) (place : ℕ) (held : List ℕ) (o : Outcome) where
-    abbrev whole : Judging
-    whole = slotJudged p parent relation plan place (judgingFrom at held)
+    -- 12 to 15
+    pub turn-refused : (o .number ≡ 0 → ⊥) → record { outcome = o; at = at; held = held } ≡ whole
+    unfolding slotJudged
+    turn-refused some = simp (behind, ne-eqb (o .number) 0 some)
 
-    -- 11: the slot runs past the end
-    pub turn-short : o ≡ record { number = 11; place = place } → length plan < here .next → record { outcome = o; at = at; held = held } ≡ whole
-    unfolding slotJudged _then_
-    turn-short told short =
-        let past : ltb (length plan) (nextAt plan at) ≡ true = lt-ltb (length plan) (nextAt plan at) (omega (arith, next-read)) in
-        simp (past, told)
-
-    module _ (within : here .next ≤ length plan) (tested : o ≡ slotTest p relation held place lent) where
-      behind : (given 11 place (ltb (length plan) (nextAt plan at)) then slotTest p relation held place (sendersAt plan at)) ≡ o
-      behind =
-          then-goes _ (slotTest p relation held place (sendersAt plan at))
-          (ap (λ (b : Bool). isAccepted (given 11 place b)) (le-ltb (length plan) (nextAt plan at) (omega (arith, next-read))))
-          ∙ sym (tested ∙ ap (slotTest p relation held place) slot-read)
-
-      -- 12 to 15
-      pub turn-refused : (o .number ≡ 0 → ⊥) → record { outcome = o; at = at; held = held } ≡ whole
-      unfolding slotJudged
-      turn-refused some = simp (behind, ne-eqb (o .number) 0 some)
-
-      -- the slot passes
-      pub turn-passed : o .number ≡ 0 → (held′ : List ℕ) → held′ ≡ moved parent lent held → record { outcome = o; at = here .next; held = held′ } ≡ whole
-      unfolding slotJudged
-      turn-passed none held′ moves =
-          let moved-slot : held′ ≡ moved parent (sendersAt plan at) held = moves ∙ ap (λ (l : List ℕ). moved parent l held) slot-read in
-          simp (next-read, behind, eq-eqb (o .number) 0 none, moved-slot)
+    -- the slot passes, so its senders may send
+    pub turn-passed : o .number ≡ 0 → (held′ : List ℕ) → held′ ≡ movedWithin parent (lent plan here) held
+        → record { outcome = o; at = here .next; held = held′ } ≡ whole
+    unfolding slotJudged
+    turn-passed none held′ moves =
+        let passed : isAccepted (slotTest p relation held place senders) ≡ true =
+        ap (λ (x : Outcome). isAccepted x) (sym test-read) ∙ eq-eqb (o .number) 0 none
+        in
+        let moved-slot : held′ ≡ moved parent senders held =
+        moves ∙ ap (λ (slot : List ℕ). movedWithin parent slot held) (slot-read plan at here is inside)
+        ∙ moved-within parent senders held (ready .long) (ready .packets)
+        (rising p parent relation held place senders (ready .few) (ready .parents) passed)
+        (sender-at p parent relation held place senders (ready .few) (ready .parents) passed)
+        in
+        simp (next-read plan at here is inside, behind, eq-eqb (o .number) 0 none, moved-slot)

@@ -3,7 +3,7 @@ use mathlib.Core.Path.{_≡_}
 use mathlib.Core.Bool.{true}
 use mathlib.Core.List.{List}
 use Prim.Native.Nat.{ℕ, _≤_, _<_}
-use lib.ListN.{length, getD}
+use lib.ListN.{length}
 use Rattle.meaning.specs.declared.Outcome.{Outcome}
 use Rattle.meaning.specs.declared.Verdict.{Verdict}
 use Rattle.meaning.specs.Words.{places}
@@ -12,10 +12,6 @@ use Rattle.meaning.specs.Answer.{accepted}
 use Rattle.meaning.specs.Judge.{Judging}
 use Rattle.laws.proofs.Moving.{weigh}
 use Rattle.judge.specs.declared.Judged.{Judged}
-
--- each sender is a node
-abbrev pub Nodes : List ℕ → Type 0
-Nodes slot = (i : ℕ) → i < length slot → getD slot i 0 < places
 
 -- how far the judge has come, as the code has it: the packets held stand beside the rest
 abbrev pub judging : Judged → List ℕ → Judging

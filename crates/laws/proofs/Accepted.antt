@@ -1,5 +1,5 @@
 -- What an accepted sheet says of its yard. The laws of answers come first: a number that is given stays, and where none is given every test
--- passed; then each fact is read off the test that would have refused it. Assumes nothing.
+-- passed; then each fact is read off the test that would have refused it.
 use mathlib.Core.Path.{_≡_, refl, sym, ap, _∙_, subst}
 use mathlib.Core.Bool.{Bool, true, false, cond, _||_}
 use mathlib.Core.List.{List}

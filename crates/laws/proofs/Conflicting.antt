@@ -1,5 +1,4 @@
 -- What every sheet's conflicts have in common: they go both ways, never from a probe to itself, and only between probes.
--- Assumes nothing.
 use mathlib.Core.Path.{_≡_, refl, sym, ap, ap₂, _∙_, subst}
 use mathlib.Core.Bool.{Bool, true, false, not, _&&_, _||_, or-comm, or-true}
 use mathlib.Core.List.{List, []}

@@ -1,5 +1,5 @@
 -- The judge is exact: it passes the good plans and no others. Both ways go slot by slot: the judge's test of a slot is that the slot is legal,
--- and as far as slot k it has read the bytes of k slots and holds what is held after them. Assumes nothing.
+-- and as far as slot k it has read the bytes of k slots and holds what is held after them.
 use mathlib.Core.Path.{_≡_, refl, sym, ap, ap₂, _∙_, subst}
 use mathlib.Core.Bool.{Bool, true, false, cond, not, _&&_}
 use mathlib.Core.List.{List, [], _∷_, _++_, append-nil, append-assoc}

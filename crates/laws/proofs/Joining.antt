@@ -1,5 +1,4 @@
 -- Who is chosen for a slot: who is chosen stays chosen, and those that are chosen do not conflict. By what each turn of joining keeps.
--- Assumes nothing.
 use mathlib.Core.Path.{_≡_, refl, sym, ap, ap₂, _∙_, subst}
 use mathlib.Core.Bool.{Bool, true, false, cond, not, _&&_}
 use mathlib.Core.List.{List, [], _∷_}

@@ -1,5 +1,5 @@
 -- The colours of a sheet's probes and of its levels keep conflicting ones apart: the conflicts of levels, like those of probes, go both ways, never to
--- oneself, and only between levels from 1 to the depth. Assumes nothing.
+-- oneself, and only between levels from 1 to the depth.
 use mathlib.Core.Path.{_≡_, refl, sym, ap, ap₂, _∙_}
 use mathlib.Core.Bool.{Bool, true, false, not, _&&_}
 use mathlib.Core.List.{List}

@@ -1,5 +1,6 @@
 -- Laws of the definitions: each file is one subject.
 pub mod Turns
+pub mod Lists
 pub mod Walk
 pub mod Moving
 pub mod Slots
@@ -8,7 +9,6 @@ pub mod Conflicting
 pub mod Accepted
 pub mod Grounds
 pub mod Running
-pub mod Sending
 pub mod Exact
 pub mod Joining
 pub mod Levels

@@ -1,6 +1,5 @@
 -- Packets that move: what is held, weighed by any weight of the nodes, changes by what each sender's packet gains on its hop.
 -- With the weight 1 this is conservation, with the level it counts the hops. By recursion over the senders.
--- Assumes nothing.
 use mathlib.Core.Path.{_≡_, refl, sym, ap, ap₂, _∙_, subst}
 use mathlib.Core.List.{List, [], _∷_, _++_}
 use mathlib.Core.Logic.{_≢_, ⊎-elim}
@@ -93,7 +92,7 @@ abbrev pub Sender : (ℕ → ℕ) → List ℕ → ℕ → Type 0
 Sender parent held v = (1 ≤ getD held v 0) × (v < places) × (parent v < places)
 
 -- the senders after v still hold a packet when v has sent
-sending-on : (parent : ℕ → ℕ) (v lo : ℕ) (held slot : List ℕ) → length held ≡ places → v ≤ lo → Rising lo slot → Each (Sender parent held) slot
+pub sending-on : (parent : ℕ → ℕ) (v lo : ℕ) (held slot : List ℕ) → length held ≡ places → v ≤ lo → Rising lo slot → Each (Sender parent held) slot
     → Each (Sender parent (hop parent v held)) slot
 unfolding Rising Each
 sending-on parent v lo held [] hl h rising sending = tt

@@ -1,5 +1,4 @@
 -- Our plans have no empty slot: a slot without a sender is not recorded, so that every turn keeps each slot recorded so far one with a sender.
--- Assumes nothing.
 use mathlib.Core.Path.{_≡_, ap}
 use mathlib.Core.Bool.{Bool, true, false, cond}
 use mathlib.Core.List.{List, [], _∷_}

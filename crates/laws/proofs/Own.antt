@@ -1,6 +1,6 @@
 -- Our own plans pass. Each slot that a turn makes is legal; while a packet is outside, a round makes a slot, so that the hops are rounds enough;
 -- and each slot takes a hop at least, so that the slots are no more than the hops. Then the judge, being exact, passes the plan. This goes for any way
--- whose owners have the four facts of `Fair`, and then for the two ways. Assumes nothing.
+-- whose owners have the four facts of `Fair`, and then for the two ways.
 use mathlib.Core.Path.{_≡_, refl, sym, ap, ap₂, _∙_, subst}
 use mathlib.Core.Bool.{Bool, true, false, cond, _&&_}
 use mathlib.Core.List.{List, [], _∷_}

@@ -1,5 +1,5 @@
 -- What slots that run do: every legal slot brings each of its senders' packets one hop nearer, and it has at most as many senders as there are
--- probes. The hops that are left are what is held, weighed by level. Assumes nothing.
+-- probes. The hops that are left are what is held, weighed by level.
 use mathlib.Core.Path.{_≡_}
 use mathlib.Core.Bool.{true}
 use mathlib.Core.List.{List, [], _∷_}

@@ -1,5 +1,4 @@
 -- A slot's senders: in rising number, and each of them may send. By recursion over the probes, and by what each turn of joining keeps.
--- Assumes nothing.
 use mathlib.Core.Path.{_≡_, refl, sym, ap, _∙_, subst}
 use mathlib.Core.Bool.{Bool, true, false, cond, not, _&&_}
 use mathlib.Core.List.{List, [], _∷_, _++_}

@@ -1,5 +1,4 @@
 -- Laws of the words of `specs/Words.antt`: each goes by recursion on how many turns there are.
--- Assumes nothing.
 use mathlib.Core.Path.{_≡_, refl, sym, ap, ap₂, _∙_, subst}
 use mathlib.Core.Bool.{Bool, true, false, cond, _||_, or-true}
 use mathlib.Core.List.{List, [], _∷_, _++_}

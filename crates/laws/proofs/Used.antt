@@ -1,5 +1,5 @@
 -- M is the number of colours: every colour from 1 to M is used. Whoever gets a colour gets the smallest free one, so that each smaller one is had already;
--- and one that is had stays, since only those without a colour get one. So each turn of a colouring keeps this. Assumes nothing.
+-- and one that is had stays, since only those without a colour get one. So each turn of a colouring keeps this.
 use mathlib.Core.Path.{_≡_, sym, ap, _∙_, subst}
 use mathlib.Core.Bool.{Bool, true, _&&_}
 use mathlib.Core.List.{List}

@@ -1,5 +1,5 @@
 -- Laws of walking from parent to parent: each goes by recursion on the hops that are left, and by whether the walk stands at its end.
--- That p hops are enough counts the nodes that have arrived: each hop brings one more, until nothing moves. Assumes nothing.
+-- That p hops are enough counts the nodes that have arrived: each hop brings one more, until nothing moves.
 use mathlib.Core.Path.{_≡_, refl, sym, ap, ap₂, _∙_, subst}
 use mathlib.Core.Bool.{Bool, true, false, cond, _&&_, and-false}
 use mathlib.Core.Logic.{_⊎_, inl, inr, ⊎-elim}

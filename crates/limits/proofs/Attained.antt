@@ -1,6 +1,5 @@
 -- The limits are attained, computed from the definitions: in the yard of one probe with fifteen packets the slots are the limits themselves. So none of
 -- the upper limits can be one less, and the lower one not one more.
--- Assumes nothing.
 use mathlib.Core.Bool.{Bool, _&&_}
 use mathlib.Core.List.{List, [], _∷_}
 use Prim.Native.Nat.{ℕ, _-_, _*_}

@@ -1,5 +1,5 @@
 -- The packets of a branch are its top's own and those of the branches below it. Each probe of the branch is its top, or below exactly one child of the
--- top: by recursion along its walk to the gateway, on which levels fall. Assumes nothing.
+-- top: by recursion along its walk to the gateway, on which levels fall.
 use mathlib.Core.Path.{_≡_, refl, sym, ap, ap₂, _∙_, subst}
 use mathlib.Core.Bool.{Bool, true, false, cond, _||_}
 use mathlib.Core.Logic.{_≢_, ⊎-elim}

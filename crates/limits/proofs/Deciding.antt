@@ -1,5 +1,5 @@
 -- The first 4,162 bytes decide every answer about a sheet. A sheet has at most 4,161 bytes, so where more are given the counts refuse it, and they stand
--- in its first 129 bytes. Assumes nothing.
+-- in its first 129 bytes.
 use mathlib.Core.Path.{_≡_, refl, sym, ap, ap₂, _∙_}
 use mathlib.Core.Bool.{Bool, true, false, cond}
 use mathlib.Core.List.{List, _++_}

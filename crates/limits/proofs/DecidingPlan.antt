@@ -1,5 +1,5 @@
 -- The first 96,032 bytes decide every verdict about a plan. Each sender of a passed slot brings a packet one hop nearer, so that the passed slots have at
--- most 30,240 senders and every slot that the judge reads stands in these bytes. Where none is refused, bytes are left behind them. Assumes nothing.
+-- most 30,240 senders and every slot that the judge reads stands in these bytes. Where none is refused, bytes are left behind them.
 use mathlib.Core.Path.{_≡_, refl, sym, ap, ap₂, _∙_}
 use mathlib.Core.Bool.{Bool, true, false, cond}
 use mathlib.Core.List.{List, [], _∷_}

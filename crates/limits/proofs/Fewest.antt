@@ -1,5 +1,5 @@
 -- No plan that the judge passes has fewer slots than the sheet has packets: in a slot at most one probe next to the gateway sends, since two
--- children of one parent conflict, so that what has come home is at most the slots judged; in the end that is all. Assumes nothing.
+-- children of one parent conflict, so that what has come home is at most the slots judged; in the end that is all.
 use mathlib.Core.Path.{_≡_, refl, sym, ap, _∙_}
 use mathlib.Core.Bool.{Bool, true, false, cond}
 use mathlib.Core.List.{List, [], _∷_}

@@ -1,5 +1,5 @@
 -- The hops of an accepted sheet are at most 30,240: every level up to the deepest has a probe, so that at most 63 - j probes stand above level j; a level
--- is the number of levels below it, and so all levels together are at most 63 + 62 + .. + 1 = 2,016, with at most 15 packets each. Assumes nothing.
+-- is the number of levels below it, and so all levels together are at most 63 + 62 + .. + 1 = 2,016, with at most 15 packets each.
 use mathlib.Core.Path.{_≡_, refl, ap}
 use mathlib.Core.Bool.{Bool, true, cond}
 use mathlib.Core.List.{List}

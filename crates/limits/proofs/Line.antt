@@ -1,5 +1,5 @@
 -- The levels of a yard form a line: what the probes of a level receive is what the next level out sends, and every level up to the deepest has a
--- probe. Level l stands at place l + 1 of the line, so that the gateway is at 1 and the levels of probes from 2 on. Assumes nothing.
+-- probe. Level l stands at place l + 1 of the line, so that the gateway is at 1 and the levels of probes from 2 on.
 use mathlib.Core.Path.{_≡_, refl, sym, ap, _∙_}
 use mathlib.Core.Bool.{Bool, true, false, cond}
 use mathlib.Core.Logic.{_≢_, ⊎-elim}

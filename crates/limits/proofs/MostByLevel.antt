@@ -1,6 +1,6 @@
 -- Demand 3, by level: never more slots than colours times all packets. A level that holds a packet when a round begins sends in it: in its colour's turn
 -- a holder is taken, or one that conflicts with it was, and that one is of the same level. The levels form a line, so after as many rounds as there are
--- packets all are home. Assumes nothing.
+-- packets all are home.
 use mathlib.Core.Path.{_≡_, refl, sym, ap, ap₂, _∙_, subst}
 use mathlib.Core.Bool.{Bool, true, false, cond, not, _&&_}
 use mathlib.Core.List.{List}

@@ -1,5 +1,5 @@
 -- Demand 3, by probe: never more slots than colours times the packets of the heaviest branch. Every probe that holds a packet sends in each round, at the
--- latest in its own colour's turn; so after as many rounds as the heaviest branch has packets all are home. Assumes nothing.
+-- latest in its own colour's turn; so after as many rounds as the heaviest branch has packets all are home.
 use mathlib.Core.Path.{_≡_, sym, ap, ap₂, _∙_}
 use mathlib.Core.Bool.{Bool, true, false, _&&_}
 use mathlib.Core.List.{List}

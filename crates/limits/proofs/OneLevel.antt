@@ -1,5 +1,5 @@
 -- Two probes that conflict and whose levels have one colour stand on one level: otherwise their levels conflict, and the colours of levels keep those
--- apart. Assumes nothing.
+-- apart.
 use mathlib.Core.Path.{_≡_, sym, ap, ap₂, _∙_, subst}
 use mathlib.Core.Bool.{Bool, true, false, not, _&&_}
 use mathlib.Core.List.{List, []}

@@ -1,5 +1,5 @@
 -- A slot that the judge passes: its senders are probes in rising number, each holds a packet, and no two conflict. Read off the tests by
--- recursion over the senders. Assumes nothing.
+-- recursion over the senders.
 use mathlib.Core.Path.{_≡_, refl, subst}
 use mathlib.Core.Bool.{Bool, true, false, cond, _&&_}
 use mathlib.Core.List.{List, [], _∷_}

@@ -1,6 +1,6 @@
 -- The page of promises: demands 1, 2 and 3 about the planners' and the judge's own answers. `plan::by_probe` answers `planAnswer s (byProbe s) room` and
 -- leaves `planBuffer s (byProbe s) buffer`, `plan::by_level` the same with `byLevel`, and the judge answers `judge s plan`: their contracts say so.
--- Each promise is proved by citing the file that does the work. Assumes nothing.
+-- Each promise is proved by citing the file that does the work.
 use mathlib.Core.Path.{_≡_, refl, sym, ap, _∙_}
 use mathlib.Core.Bool.{Bool, true, false, cond}
 use mathlib.Core.List.{List, []}

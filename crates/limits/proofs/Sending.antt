@@ -1,5 +1,5 @@
 -- Conservation: what a node holds after a slot, and what it sent in it, is what it held before and what its children sent. By weighing the packets
--- of that node alone. Assumes nothing.
+-- of that node alone.
 use mathlib.Core.Path.{_≡_, refl, sym, ap, ap₂, _∙_}
 use mathlib.Core.Bool.{Bool, true, false, cond}
 use mathlib.Core.List.{List, [], _∷_, _++_}

@@ -1,5 +1,5 @@
 -- Rounds that serve every holder bring the packets home in time. By rounds: a probe that is behind has a child that has sent enough, or children that
--- have sent all, and so holds a packet. The lag is what relays cost; it is 0 where every probe has a packet of its own. Assumes nothing.
+-- have sent all, and so holds a packet. The lag is what relays cost; it is 0 where every probe has a packet of its own.
 use mathlib.Core.Path.{_≡_, refl, sym, ap, subst}
 use mathlib.Core.Bool.{Bool, true, false, cond, _&&_}
 use mathlib.Core.Logic.{_⊎_, inl, inr, ⊎-elim}

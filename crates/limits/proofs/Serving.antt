@@ -1,5 +1,5 @@
 -- A round serves whom it owes a turn. What holds a packet when the round begins has sent before its turn comes, or still holds one, since a
--- node loses packets only by sending. Said of anything that is held, sent and received, so that it serves probes and levels alike. Assumes nothing.
+-- node loses packets only by sending. Said of anything that is held, sent and received, so that it serves probes and levels alike.
 use mathlib.Core.Path.{_≡_, refl, sym, ap, _∙_, subst}
 use mathlib.Core.Bool.{Bool, true, false, cond}
 use mathlib.Core.List.{List, []}

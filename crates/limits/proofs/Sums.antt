@@ -1,5 +1,4 @@
 -- Laws of sums: by recursion on how many numbers are summed. Exchanging two sums is the workhorse of conservation.
--- Assumes nothing.
 use mathlib.Core.Path.{_≡_, refl, sym, ap, _∙_}
 use mathlib.Core.Bool.{Bool, true, false, cond}
 use mathlib.Core.Logic.{⊎-elim}

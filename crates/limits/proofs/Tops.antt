@@ -1,5 +1,5 @@
 -- The heaviest branch is one next to the gateway: a branch is a part of its parent's, so that, by recursion along the walk from its top to the gateway,
--- it has no more packets than the last branch on that walk. Assumes nothing.
+-- it has no more packets than the last branch on that walk.
 use mathlib.Core.Path.{_≡_, refl, sym, _∙_, subst}
 use mathlib.Core.Bool.{Bool, true, false, cond}
 use mathlib.Core.List.{List}

@@ -1,5 +1,4 @@
 -- What an accepted sheet's yard gives to the limits: walks that end at the gateway, and conflicts that can be coloured.
--- Assumes nothing.
 use mathlib.Core.Path.{_≡_, _∙_}
 use mathlib.Core.Bool.{true}
 use mathlib.Core.List.{List}

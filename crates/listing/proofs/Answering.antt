@@ -1,5 +1,4 @@
 -- The whole text for a sheet, by the planner's answer: a refusal's line, or line one and behind it the lines of the slots that stand in the plan.
--- Assumes nothing.
 use mathlib.Core.Path.{_≡_, refl, sym, ap, ap₂, _∙_, subst}
 use mathlib.Core.Bool.{Bool, true, false, cond}
 use mathlib.Core.List.{List, _++_}
@@ -21,7 +20,7 @@ use Rattle.meaning.specs.Lister.{firstLine, slotLines, refusalLine, sheetListed
 use Rattle.laws.proofs.Accepted.{then-accepted, given-accepted}
 use Rattle.laws.proofs.Own.{by-probe-plan}
 use Rattle.lines.specs.Line.{lineLength, lineIn}
-use Rattle.plan.proofs.Writing.{length-front}
+use Rattle.laws.proofs.Lists.{length-front}
 use Rattle.plan.proofs.Going.{part-from}
 use Rattle.listing.specs.Listed.{listRoom, listedLength, listedIn, slotsFrom}
 use Rattle.listing.proofs.Reading.{slots-read, plan-same}

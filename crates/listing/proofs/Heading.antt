@@ -1,38 +1,39 @@
--- Line one: what the code counts in the yard that it read is what the sheet says.
--- Assumes nothing.
+-- Line one: what the code counts in the tree that it read is what the sheet says.
 use mathlib.Core.Path.{_≡_, ap, ap₂, _∙_, fun-ext}
 use mathlib.Core.Bool.{true}
 use mathlib.Core.List.{List}
 use Prim.Native.Nat.{ℕ}
 use lib.ListN.{getD}
-use Rattle.meaning.specs.Words.{sumProbes, tab, places}
+use Rattle.meaning.specs.Words.{sumProbes}
 use Rattle.meaning.specs.Yard.{heaviestOf}
-use Rattle.meaning.specs.Sheet.{probeCount, packetsOf, allPackets, heaviest}
+use Rattle.meaning.specs.Sheet.{probeCount, parentOf, packetsOf, allPackets, heaviest}
 use Rattle.meaning.specs.Answer.{isAccepted, sheetTest}
-use Rattle.laws.proofs.Grounds.{parent-read, packets-read}
+use Rattle.laws.proofs.Grounds.{packets-read}
 use Rattle.meaning.specs.Lister.{numbersLine}
 use Rattle.lines.specs.Line.{lineLength, lineIn}
-use Rattle.sheet.specs.declared.Yard.{Yard}
-use Rattle.sheet.specs.Yard.{yardOf}
-use Rattle.plan.proofs.Preparing.{yard-read}
+use Rattle.sheet.specs.declared.Tree.{Tree}
+use Rattle.sheet.specs.Tree.{treeOf}
+use Rattle.sheet.proofs.Standing.{Standing, standing, parents-read}
 
-module _ (s : List ℕ) (ok : isAccepted (sheetTest s) ≡ true) (yard : Yard) (read : yard ≡ yardOf s) where
-  packets : (λ (v : ℕ). getD (tab places (packetsOf s)) v 0) ≡ packetsOf s
-  packets = fun-ext (packets-read s ok)
+module _ (s : List ℕ) (ok : isAccepted (sheetTest s) ≡ true) (tree : Tree) (read : tree ≡ treeOf s) where
+  its : Standing s tree
+  its = standing s ok tree read
 
-  all-packets : sumProbes (yard .probes) (λ v. getD (yard .packets) v 0) ≡ allPackets s
+  packets : (λ (v : ℕ). getD (tree .packets) v 0) ≡ packetsOf s
+  packets = fun-ext (λ v. ap (λ (l : List ℕ). getD l v 0) (its .packets) ∙ packets-read s ok v)
+
+  all-packets : sumProbes (tree .probes) (λ v. getD (tree .packets) v 0) ≡ allPackets s
   unfolding allPackets
-  all-packets =
-      ap (λ (y : Yard). sumProbes (y .probes) (λ v. getD (y .packets) v 0)) (read ∙ yard-read s ok) ∙ ap (λ (f : ℕ → ℕ). sumProbes (probeCount s) f) packets
+  all-packets = ap₂ (λ (p : ℕ) (f : ℕ → ℕ). sumProbes p f) (its .probes) packets
 
-  heaviest-branch : heaviestOf (yard .probes) (λ v. getD (yard .parents) v 0) (λ v. getD (yard .packets) v 0) ≡ heaviest s
+  heaviest-branch : heaviestOf (tree .probes) (λ v. getD (tree .parents) v 0) (λ v. getD (tree .packets) v 0) ≡ heaviest s
   unfolding heaviest
   heaviest-branch =
-      ap (λ (y : Yard). heaviestOf (y .probes) (λ v. getD (y .parents) v 0) (λ v. getD (y .packets) v 0)) (read ∙ yard-read s ok)
-      ∙ ap₂ (λ (up f : ℕ → ℕ). heaviestOf (probeCount s) up f) (parent-read s ok) packets
+      ap₂ (λ (p : ℕ) (up : ℕ → ℕ). heaviestOf p up (λ v. getD (tree .packets) v 0)) (its .probes) (parents-read s ok tree its)
+      ∙ ap (λ (f : ℕ → ℕ). heaviestOf (probeCount s) (parentOf s) f) packets
 
-  pub headed : (colours slots all most : ℕ) (out out′ : List ℕ) (r : ℕ) → all ≡ sumProbes (yard .probes) (λ v. getD (yard .packets) v 0)
-      → most ≡ heaviestOf (yard .probes) (λ v. getD (yard .parents) v 0) (λ v. getD (yard .packets) v 0)
+  pub headed : (colours slots all most : ℕ) (out out′ : List ℕ) (r : ℕ) → all ≡ sumProbes (tree .probes) (λ v. getD (tree .packets) v 0)
+      → most ≡ heaviestOf (tree .probes) (λ v. getD (tree .parents) v 0) (λ v. getD (tree .packets) v 0)
       → r ≡ lineLength out (numbersLine colours slots all most) → out′ ≡ lineIn out (numbersLine colours slots all most)
       → (r ≡ lineLength out (numbersLine colours slots (allPackets s) (heaviest s))) × (out′ ≡ lineIn out (numbersLine colours slots (allPackets s) (heaviest s)))
   headed colours slots all most out out′ r sums most-of answer buffer =

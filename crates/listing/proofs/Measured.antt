@@ -1,5 +1,4 @@
 -- How long the text is: a slot's line has seven bytes and three for each sender, since no probe has more than two digits.
--- Assumes nothing.
 use mathlib.Core.Path.{_≡_, refl, ap, _∙_}
 use mathlib.Core.Bool.{true}
 use mathlib.Core.List.{List, [], _∷_, _++_}

@@ -1,5 +1,4 @@
 -- The slots that the bytes of a plan stand for: read one behind the other they are those that were written, by recursion on the slots.
--- Assumes nothing.
 use mathlib.Core.Path.{_≡_, refl, sym, ap, ap₂, _∙_}
 use mathlib.Core.List.{List, [], _∷_, _++_, append-assoc}
 use Prim.Native.Nat.{ℕ, _+_, _-_, _≤_, _<_}

@@ -1,5 +1,4 @@
 -- The lines of a plan's slots, written one behind the other: what is written and the lines that are left make the whole.
--- Assumes nothing.
 use mathlib.Core.Path.{_≡_, refl, sym, ap, ap₂, _∙_}
 use mathlib.Core.Bool.{Bool, cond}
 use mathlib.Core.List.{List, [], _∷_, _++_, append-nil, append-assoc}
@@ -15,7 +14,7 @@ use Rattle.meaning.specs.Judge.{nextAt, sendersAt}
 use Rattle.meaning.specs.Lister.{slotLines, slotLine}
 use Rattle.lines.specs.Line.{lineLength, lineIn}
 use Rattle.lines.proofs.Lined.{slot-line}
-use Rattle.plan.proofs.Writing.{length-front}
+use Rattle.laws.proofs.Lists.{length-front}
 use Rattle.plan.proofs.Going.{front-front, part-from, put-behind}
 use Rattle.listing.specs.Listed.{slotsFrom, Listing}
 

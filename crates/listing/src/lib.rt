@@ -52,10 +52,10 @@ fn first(sheet: &[u8], colours: u8, slots: u16, out: &mut [u8]) -> usize
     ensures answer { λ r. ⌜ r ≡ lineLength (now (out .entry)) (numbersLine colours slots (allPackets (now (sheet .entry))) (heaviest (now (sheet .entry)))) ⌝ }
     ensures buffer { λ _. ⌜ now (out .exit) ≡ lineIn (now (out .entry)) (numbersLine colours slots (allPackets (now (sheet .entry))) (heaviest (now (sheet .entry)))) ⌝ }
 {
-    let yard = sheet::read(sheet);
-    let p = yard.probes;
-    let parents = yard.parents;
-    let packets = yard.packets;
+    let tree = sheet::read(sheet);
+    let p = tree.probes;
+    let parents = tree.parents;
+    let packets = tree.packets;
     let all = branch::all_packets(p, &packets);
     let most = branch::heaviest(p, parents, packets);
     lines::first_line(colours, slots, all, most, out)

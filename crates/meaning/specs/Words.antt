@@ -36,7 +36,7 @@ tab (suc k) f = tab k f ++ (f k ∷ [])
 abbrev pub places : ℕ
 places = 65
 
--- the same four over the p probes, in rising number
+-- the same over the p probes, in rising number
 abbrev pub eachProbe : {A : Type 0} → ℕ → (ℕ → A → A) → A → A
 eachProbe p step = forEach p (λ k. step (k + 2))
 

@@ -1,5 +1,4 @@
 -- A planner's whole answer: refused as the tests say, or the plan of the definitions, which the code makes in a way of its own.
--- Assumes nothing.
 use mathlib.Core.Path.{_≡_, refl, sym, ap, ap₂, _∙_, subst, subst₃, fun-ext}
 use mathlib.Core.Bool.{Bool, true, false, cond}
 use mathlib.Core.List.{List, []}
@@ -12,7 +11,7 @@ use lib.ListN.{length, getD}
 use Rattle.meaning.specs.declared.Outcome.{Outcome}
 use Rattle.meaning.specs.declared.Planned.{Planned}
 use Rattle.meaning.specs.declared.Level.{Level}
-use Rattle.plan.specs.declared.Ground.{Ground}
+use Rattle.sheet.specs.declared.Tree.{Tree}
 use Rattle.meaning.specs.Words.{most, mostProbes, tab, places}
 use Rattle.meaning.specs.Yard.{isProbe, levelBy}
 use Rattle.meaning.specs.Sheet.{probeCount, parentOf, packetsOf, levelOf, hops, pairRecords, pairCount, interfere}
@@ -27,11 +26,14 @@ use Rattle.laws.proofs.Moving.{weigh}
 use Rattle.laws.proofs.Colouring.{Conflicts, Proper, proper}
 use Rattle.laws.proofs.Conflicting.{interfere-sym, conflicts, entry-conflict}
 use Rattle.laws.proofs.Accepted.{then-stays, then-goes, then-assoc, then-accepted, given-accepted}
-use Rattle.laws.proofs.Grounds.{few-probes, parent-read, parent-node, level-up, few-packets, first-left, hops-most}
+use Rattle.laws.proofs.Grounds.{few-probes, parent-node, level-up, few-packets, first-left, hops-most}
 use Rattle.plan.specs.Turn.{Ready}
 use Rattle.plan.specs.Going.{wayBy, from, slotsBy}
-use Rattle.plan.specs.Answered.{groundTest, Standing, Prepared, Finished}
-use Rattle.plan.proofs.Owners.{one-by-one, owners-same, wayOf, rounds-same}
+use Rattle.plan.specs.Answered.{groundTest, prepared, Finished}
+use Rattle.sheet.proofs.Standing.{Standing, parents-read, conflicts-read}
+use Rattle.chosen.proofs.Owners.{one-by-one, owners-same}
+use Rattle.plan.proofs.Preparing.{stands}
+use Rattle.plan.proofs.SameOwners.{wayOf, rounds-same}
 
 -- the definitions opened
 probe-colours : (s : List ℕ) → colouring (entry (conflictTable s)) 2 (probeCount s) ≡ probeColours s
@@ -55,7 +57,11 @@ depth-read : (s : List ℕ) → isAccepted (sheetTest s) ≡ true → mostProbes
 unfolding depth
 depth-read s yes′ = most-same (probeCount s) (λ k. getD (levels s) (k + 2) 0) (λ k. levelOf s (k + 2)) (level-read s yes′)
 
-module _ (s buffer : List ℕ) (ground : Ground) (prepared : Prepared s (length buffer) ground) where
+module _ (s buffer : List ℕ) (tree : Tree) (is : tree ≡ prepared s (length buffer)) where
+  tested : tree .outcome ≡ groundTest s (length buffer)
+  unfolding prepared
+  tested = ap (λ (t : Tree). t .outcome) is
+
   -- the answer and the buffer afterwards, for any way
   abbrev Answers : Way → Planned → List ℕ → Type 0
   Answers way answer buffer′ = (answer ≡ planAnswer s way (length buffer)) × (buffer′ ≡ planBuffer s way buffer)
@@ -68,7 +74,7 @@ module _ (s buffer : List ℕ) (ground : Ground) (prepared : Prepared s (length 
   in-two way = sym (then-assoc (sheetTest s) _ _)
 
   -- a refusal
-  pub refuses : (way : Way) → ground .outcome .number ≢ 0 → Answers way (refusedPlan (ground .outcome)) buffer
+  pub refuses : (way : Way) → tree .outcome .number ≢ 0 → Answers way (refusedPlan (tree .outcome)) buffer
   unfolding planAnswer planBuffer
   refuses way n = (
     ap refusedPlan its ∙ sym (ap (λ (b : Bool). cond b (answered way) (refusedPlan (whole-test way))) not-accepted),
@@ -78,24 +84,24 @@ module _ (s buffer : List ℕ) (ground : Ground) (prepared : Prepared s (length 
       answered : Way → Planned
       answered w = record { outcome = whole-test w; colours = w .colours; slots = length (slotsOf s w); bytes = length (planBytes (slotsOf s w)) }
 
-      refused : isAccepted (ground .outcome) ≡ false
-      refused = ne-eqb (ground .outcome .number) 0 n
+      refused : isAccepted (tree .outcome) ≡ false
+      refused = ne-eqb (tree .outcome .number) 0 n
 
-      its : ground .outcome ≡ whole-test way
-      its = prepared .tested ∙ sym (in-two way ∙ then-stays (groundTest s (length buffer)) _ (ap isAccepted (sym (prepared .tested)) ∙ refused))
+      its : tree .outcome ≡ whole-test way
+      its = tested ∙ sym (in-two way ∙ then-stays (groundTest s (length buffer)) _ (ap isAccepted (sym tested) ∙ refused))
 
       not-accepted : isAccepted (whole-test way) ≡ false
       not-accepted = ap isAccepted (sym its) ∙ refused
 
-  module _ (zero′ : ground .outcome .number ≡ 0) where
+  module _ (zero′ : tree .outcome .number ≡ 0) where
     passed : isAccepted (groundTest s (length buffer)) ≡ true
-    passed = ap isAccepted (sym (prepared .tested)) ∙ eq-eqb (ground .outcome .number) 0 zero′
+    passed = ap isAccepted (sym tested) ∙ eq-eqb (tree .outcome .number) 0 zero′
 
-    pub sheet-passed : isAccepted (sheetTest s) ≡ true
+    sheet-passed : isAccepted (sheetTest s) ≡ true
     sheet-passed = then-accepted (sheetTest s) _ passed .0
 
-    pub standing : Standing s ground
-    standing = prepared .read (eq-eqb (ground .outcome .number) 0 zero′)
+    standing : Standing s tree
+    standing = subst (λ (t : Tree). Standing s t) (sym is) (stands s (length buffer) sheet-passed)
 
     room : roomFor (hops s) ≤ length buffer
     room = ltb-false (length buffer) (roomFor (hops s)) (given-accepted 9 0 (ltb (length buffer) (roomFor (hops s))) refl (then-accepted (sheetTest s) _ passed .1))
@@ -103,13 +109,13 @@ module _ (s buffer : List ℕ) (ground : Ground) (prepared : Prepared s (length 
     pub two : 2 ≤ length buffer
     two = omega (arith, room)
 
-    parent : (λ (u : ℕ). getD (ground .parents) u 0) ≡ parentOf s
-    parent = ap {B = ℕ → ℕ} (λ (l : List ℕ). λ u. getD l u 0) (standing .parents) ∙ parent-read s sheet-passed
+    parent : (λ (u : ℕ). getD (tree .parents) u 0) ≡ parentOf s
+    parent = parents-read s sheet-passed tree standing
 
     a-probe : (k : ℕ) → k < probeCount s → isProbe (probeCount s) (k + 2) ≡ true
     a-probe k h = probe-yes (probeCount s) (k + 2) (omega arith) (omega arith)
 
-    pub ready : Ready (ground .probes) (λ u. getD (ground .parents) u 0) (ground .packets) (length buffer - 2)
+    pub ready : Ready (tree .probes) (λ u. getD (tree .parents) u 0) (tree .packets) (length buffer - 2)
     unfolding levelOf
     ready =
         subst₃ (λ (p : ℕ) (up : ℕ → ℕ) (held : List ℕ). Ready p up held (length buffer - 2)) (sym (standing .probes)) (sym parent) (sym (standing .packets))
@@ -121,7 +127,7 @@ module _ (s buffer : List ℕ) (ground : Ground) (prepared : Prepared s (length 
           fits = omega (arith, first-left s sheet-passed, room);
         })
 
-    pub few : weigh (levelBy (ground .probes) (λ u. getD (ground .parents) u 0)) (ground .packets) ≤ 65535
+    pub few : weigh (levelBy (tree .probes) (λ u. getD (tree .parents) u 0)) (tree .packets) ≤ 65535
     unfolding levelOf
     few =
         subst₃ (λ (p : ℕ) (up : ℕ → ℕ) (held : List ℕ). weigh (levelBy p up) held ≤ 65535) (sym (standing .probes)) (sym parent) (sym (standing .packets))
@@ -129,10 +135,10 @@ module _ (s buffer : List ℕ) (ground : Ground) (prepared : Prepared s (length 
 
     -- the code's plan, over what the sheet says
     over-sheet : (table : List (List Bool)) (own : List ℕ) (m : ℕ)
-        → slotsBy (ground .probes) (ground .parents) table own m (ground .hops) (ground .packets)
+        → slotsBy (tree .probes) (tree .parents) table own m (tree .hops) (tree .packets)
         ≡ rounds (wayOf (probeCount s) (parentOf s) (entry table) m (ownersByLevel (probeCount s) (entry table) (λ v. getD own v 0))) (hops s) (before (packetsOf s)) .slots
     over-sheet table own m =
-        ap₂ (λ (p : ℕ) (up : ℕ → ℕ). rounds (wayOf p up (entry table) m (ownersByLevel p (entry table) (λ v. getD own v 0))) (ground .hops) (from (ground .packets)) .slots)
+        ap₂ (λ (p : ℕ) (up : ℕ → ℕ). rounds (wayOf p up (entry table) m (ownersByLevel p (entry table) (λ v. getD own v 0))) (tree .hops) (from (tree .packets)) .slots)
         (standing .probes) parent
         ∙ ap₂ (λ (n : ℕ) (held : List ℕ). rounds (wayOf (probeCount s) (parentOf s) (entry table) m (ownersByLevel (probeCount s) (entry table) (λ v. getD own v 0))) n (from held) .slots)
         (standing .hops) (standing .packets)
@@ -156,14 +162,10 @@ module _ (s buffer : List ℕ) (ground : Ground) (prepared : Prepared s (length 
         good : isAccepted (whole-test way) ≡ true
         good = ap isAccepted its
 
-    module _ (records : List ℕ) (q : ℕ) (table : List (List Bool)) (read : records ≡ pairRecords s) (counted : q ≡ pairCount s)
-        (made : table ≡ tableOf (conflict (ground .probes) (λ v. getD (ground .parents) v 0) (interfere records q))) where
-      pub its-table : table ≡ conflictTable s
-      unfolding conflictTable
-      its-table =
-          made
-          ∙ ap₂ (λ (p : ℕ) (up : ℕ → ℕ). tableOf (conflict p up (interfere records q))) (standing .probes) parent
-          ∙ ap₂ (λ (r : List ℕ) (n : ℕ). tableOf (conflict (probeCount s) (parentOf s) (interfere r n))) read counted
+    module _ (table : List (List Bool))
+        (made : table ≡ tableOf (conflict (tree .probes) (λ v. getD (tree .parents) v 0) (interfere (pairRecords s) (pairCount s)))) where
+      its-table : table ≡ conflictTable s
+      its-table = conflicts-read s sheet-passed tree standing table made
 
       -- no two probes of one colour conflict, and only probes have colours
       proper-probes : Proper (entry (conflictTable s)) 2 (probeCount s) (probeColours s)
@@ -185,8 +187,8 @@ module _ (s buffer : List ℕ) (ground : Ground) (prepared : Prepared s (length 
           as-relation = fun-ext (λ x. fun-ext (λ y. entry-conflict (probeCount s) (parentOf s) pair both-ways (few-probes s sheet-passed) x y))
 
       -- by probe: the owners taken one by one are all of them
-      pub by-probe : (own : List ℕ) (m : ℕ) → own ≡ colouring (entry table) 2 (ground .probes) → m ≡ coloursUsed own
-          → (slotsBy (ground .probes) (ground .parents) table own m (ground .hops) (ground .packets) ≡ slotsOf s (byProbe s)) × (m ≡ byProbe s .colours)
+      pub by-probe : (own : List ℕ) (m : ℕ) → own ≡ colouring (entry table) 2 (tree .probes) → m ≡ coloursUsed own
+          → (slotsBy (tree .probes) (tree .parents) table own m (tree .hops) (tree .packets) ≡ slotsOf s (byProbe s)) × (m ≡ byProbe s .colours)
       unfolding slotsOf byProbe
       by-probe own m coloured used = (
         over-sheet table own m
@@ -214,10 +216,10 @@ module _ (s buffer : List ℕ) (ground : Ground) (prepared : Prepared s (length 
 
       -- by level: each probe has the colour of its level
       pub by-level : (depths : Level) (above : List (List Bool)) (colours own : List ℕ) (m : ℕ)
-          → depths ≡ record { 0 = mostProbes (ground .probes) (λ v. getD (ground .levels) v 0) }
-          → above ≡ tableOf (levelsConflict (ground .probes) (λ v. getD (ground .levels) v 0) (entry table))
-          → colours ≡ colouring (entry above) 1 (depths .0) → own ≡ tab places (λ v. getD colours (getD (ground .levels) v 0) 0) → m ≡ coloursUsed colours
-          → (slotsBy (ground .probes) (ground .parents) table own m (ground .hops) (ground .packets) ≡ slotsOf s (byLevel s)) × (m ≡ byLevel s .colours)
+          → depths ≡ record { 0 = mostProbes (tree .probes) (λ v. getD (tree .levels) v 0) }
+          → above ≡ tableOf (levelsConflict (tree .probes) (λ v. getD (tree .levels) v 0) (entry table))
+          → colours ≡ colouring (entry above) 1 (depths .0) → own ≡ tab places (λ v. getD colours (getD (tree .levels) v 0) 0) → m ≡ coloursUsed colours
+          → (slotsBy (tree .probes) (tree .parents) table own m (tree .hops) (tree .packets) ≡ slotsOf s (byLevel s)) × (m ≡ byLevel s .colours)
       unfolding slotsOf byLevel
       by-level depths above colours own m deep tabled coloured looked used = (
         over-sheet table own m
@@ -250,5 +252,5 @@ module _ (s buffer : List ℕ) (ground : Ground) (prepared : Prepared s (length 
           its-own : (k : ℕ) → k < probeCount s → getD own (k + 2) 0 ≡ getD (levelColours s) (levelOf s (k + 2)) 0
           its-own k h =
               ap (λ (l : List ℕ). getD l (k + 2) 0) looked
-              ∙ getD-tab places (λ v. getD colours (getD (ground .levels) v 0) 0) (k + 2) 0 (omega (arith, few-probes s sheet-passed))
+              ∙ getD-tab places (λ v. getD colours (getD (tree .levels) v 0) 0) (k + 2) 0 (omega (arith, few-probes s sheet-passed))
               ∙ ap₂ (λ (l : List ℕ) (n : ℕ). getD l n 0) its-colours (ap (λ (l : List ℕ). getD l (k + 2) 0) (standing .levels) ∙ level-read s sheet-passed k h)

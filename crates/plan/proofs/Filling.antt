@@ -1,5 +1,4 @@
 -- The whole plan: never more slots than hops, and its number in front of its slots.
--- Assumes nothing.
 use mathlib.Core.Path.{_≡_, refl, sym, ap, ap₂, _∙_, subst}
 use mathlib.Core.Bool.{Bool, true, false, cond}
 use mathlib.Core.List.{List, [], _∷_, _++_}
@@ -14,7 +13,8 @@ use Rattle.meaning.specs.Plan.{front, slotBytes, planBytes, twoBytes}
 use Rattle.meaning.specs.Rounds.{Progress, Way, holds, outside, moved, recorded, round, rounds, slotFor}
 use Rattle.laws.proofs.Turns.{forEach-keeps}
 use Rattle.laws.proofs.Moving.{weigh}
-use Rattle.plan.specs.Turn.{Ready, turnSlot, made}
+use Rattle.chosen.specs.TurnSlot.{byNode, turnSlot, made}
+use Rattle.plan.specs.Turn.{Ready}
 use Rattle.plan.specs.Going.{wayBy, from, slotsBy, Going, Filled}
 use Rattle.plan.proofs.Turning.{ready-next, turn-hops}
 use Rattle.plan.proofs.Going.{recorded-made, put-behind}
@@ -43,19 +43,21 @@ module _ (p : ℕ) (parents : List ℕ) (table : List (List Bool)) (own : List �
   spent-turn all s now spent =
       subst (λ (then : Progress). Spent all then) (sym (recorded-made (way .parent) slot now))
       (record {
-        ready = ready-own (moved (way .parent) slot (now .held)) _ (ready-next p (way .parent) (now .held) (2 * energy (now .held)) (spent .ready) (way .relation) (λ v. getD own v 0) s);
+        ready =
+            ready-own (moved (way .parent) slot (now .held)) _
+            (ready-next p (way .parent) (now .held) (2 * energy (now .held)) (spent .ready) (way .relation) (byNode own) s);
         fewer =
             omega (
               arith,
               spent .fewer,
               made-most slot,
               length-append (now .slots) (made slot),
-              turn-hops p (way .parent) (now .held) (2 * energy (now .held)) (spent .ready) (way .relation) (λ v. getD own v 0) s,
+              turn-hops p (way .parent) (now .held) (2 * energy (now .held)) (spent .ready) (way .relation) (byNode own) s,
             );
       })
     where
       slot : List ℕ
-      slot = turnSlot p (way .relation) (λ v. getD own v 0) s (now .held)
+      slot = turnSlot p (way .relation) (byNode own) s (now .held)
 
   spent-round : (all : ℕ) (now : Progress) → Spent all now → Spent all (round way now)
   unfolding round

@@ -1,5 +1,4 @@
 -- Turn after turn: what a turn writes goes behind what stands there already.
--- Assumes nothing.
 use mathlib.Core.Path.{_≡_, refl, sym, ap, ap₂, _∙_, subst, subst₂}
 use mathlib.Core.Bool.{Bool, true, false, cond}
 use mathlib.Core.List.{List, [], _∷_, _++_, append-nil, append-assoc}
@@ -14,11 +13,12 @@ use Rattle.meaning.specs.Words.{forEach}
 use Rattle.meaning.specs.Plan.{front, slotBytes}
 use Rattle.meaning.specs.Rounds.{Progress, Way, holds, moved, recorded, round, rounds, slotFor, outside}
 use Rattle.laws.proofs.Turns.{forEach-one, forEach-stays}
+use Rattle.laws.proofs.Lists.{length-front}
 use Rattle.laws.proofs.Exact.{slot-bytes-append}
-use Rattle.plan.specs.Turn.{Ready, Turned, turnSlot, made}
+use Rattle.chosen.specs.TurnSlot.{byNode, turnSlot, slotBy, made}
+use Rattle.plan.specs.Turn.{Ready, Turned}
 use Rattle.plan.specs.Going.{wayBy, from, Going}
-use Rattle.plan.proofs.Writing.{length-front}
-use Rattle.plan.proofs.Turning.{made-one, ready-next, turn-bytes}
+use Rattle.plan.proofs.Turning.{ready-next, turn-bytes}
 
 -- a slot recorded, empty or not
 pub recorded-made : (parent : ℕ → ℕ) (slot : List ℕ) (now : Progress)
@@ -62,7 +62,7 @@ put-behind l part at h =
 
 module _ (p : ℕ) (parents : List ℕ) (table : List (List Bool)) (own : List ℕ) (m : ℕ) where
   abbrev parent : ℕ → ℕ
-  parent u = getD parents u 0
+  parent = byNode parents
 
   abbrev way : Way
   way = wayBy p parents table own m
@@ -75,8 +75,12 @@ module _ (p : ℕ) (parents : List ℕ) (table : List (List Bool)) (own : List �
   unfolding turns round
   turns-all held = refl
 
+  -- the slot of the turn that follows them
+  abbrev nextSlot : ℕ → List ℕ → List ℕ
+  nextSlot k held = slotBy p table own (k + 1) (turns k held .held)
+
   turns-next : (k : ℕ) (held : List ℕ) → turns (k + 1) held
-      ≡ record { held = moved parent (turnSlot p (way .relation) (λ v. getD own v 0) (k + 1) (turns k held .held)) (turns k held .held); slots = turns k held .slots ++ made (turnSlot p (way .relation) (λ v. getD own v 0) (k + 1) (turns k held .held)) }
+      ≡ record { held = moved parent (nextSlot k held) (turns k held .held); slots = turns k held .slots ++ made (nextSlot k held) }
   unfolding turns turnSlot
   turns-next k held =
       forEach-one k (λ s now. recorded parent (slotFor way (s + 1) (holds (now .held))) now) (from held)
@@ -98,7 +102,7 @@ module _ (p : ℕ) (parents : List ℕ) (table : List (List Bool)) (own : List �
   -- one more turn, whose slot is written into the part from `at` on
   pub going-next : (k : ℕ) (held₀ held rest₀ rest : List ℕ) (at slots : ℕ) → Going p parent (turns k held₀) held rest₀ rest at slots
       → (held′ part : List ℕ) (bytes : ℕ)
-      → Turned parent (turnSlot p (way .relation) (λ v. getD own v 0) (k + 1) held) held held′ (take (length rest - at) (drop at rest)) part bytes
+      → Turned parent (slotBy p table own (k + 1) held) held held′ (take (length rest - at) (drop at rest)) part bytes
       → (more : ℕ) → more ≡ cond (eqb bytes 0) 0 1
       → Going p parent (turns (k + 1) held₀) held′ rest₀ (putMid at (length rest - at) rest part) (at + bytes) (slots + more)
   going-next k held₀ held rest₀ rest at slots now held′ part bytes lent more count =
@@ -111,25 +115,26 @@ module _ (p : ℕ) (parents : List ℕ) (table : List (List Bool)) (own : List �
             ∙ sym (length-append (slotBytes done) (slotBytes (made (slotAt before))))
             ∙ ap length (sym (slot-bytes-append done (made (slotAt before))));
         made =
-            ap₂ _+_ (now .made) (count ∙ ap (λ (b : ℕ). cond (eqb b 0) 0 1) (turned .counted) ∙ sym (made-count (slotAt held)) ∙ ap (λ (h : List ℕ). length (made (slotAt h))) (now .holding))
+            ap₂ _+_ (now .made) (one-more ∙ ap (λ (h : List ℕ). length (made (slotAt h))) (now .holding))
             ∙ sym (length-append done (made (slotAt before)));
         wrote =
             ap (λ (l : List ℕ). take at rest ++ l) (turned .wrote ∙ ap (λ (h : List ℕ). front (drop at rest) (slotBytes (made (slotAt h)))) (now .holding))
             ∙ ap (λ (l : List ℕ). take at l ++ front (drop at l) (slotBytes (made (slotAt before)))) (now .wrote)
             ∙ front-front rest₀ (slotBytes done) (slotBytes (made (slotAt before))) at (now .counted)
             ∙ ap (front rest₀) (sym (slot-bytes-append done (made (slotAt before))));
-        within = omega (arith, now .within, turned .counted, turn-bytes p parent held (length rest₀ - at) (now .ready) (way .relation) (λ v. getD own v 0) (k + 1));
+        within =
+            omega (arith, now .within, turned .counted, turn-bytes p parent held (length rest₀ - at) (now .ready) (way .relation) (byNode own) (k + 1));
         fewer =
             omega (
               arith,
               now .fewer,
               turned .counted,
-              count ∙ ap (λ (b : ℕ). cond (eqb b 0) 0 1) (turned .counted) ∙ sym (made-count (slotAt held)),
+              one-more,
               made-fewer (slotAt held),
             );
         ready =
             subst₂ (λ (h : List ℕ) (r : ℕ). Ready p parent h r) (sym (turned .moves)) room
-            (ready-next p parent held (length rest₀ - at) (now .ready) (way .relation) (λ v. getD own v 0) (k + 1));
+            (ready-next p parent held (length rest₀ - at) (now .ready) (way .relation) (byNode own) (k + 1));
       })
     where
       before : List ℕ
@@ -139,10 +144,13 @@ module _ (p : ℕ) (parents : List ℕ) (table : List (List Bool)) (own : List �
       done = turns k held₀ .slots
 
       slotAt : List ℕ → List ℕ
-      slotAt h = turnSlot p (way .relation) (λ v. getD own v 0) (k + 1) h
+      slotAt h = slotBy p table own (k + 1) h
 
       turned : Turned parent (slotAt held) held held′ (drop at rest) part bytes
       turned = subst (λ (from′ : List ℕ). Turned parent (slotAt held) held held′ from′ part bytes) (part-from rest at) lent
+
+      one-more : more ≡ length (made (slotAt held))
+      one-more = count ∙ ap (λ (b : ℕ). cond (eqb b 0) 0 1) (turned .counted) ∙ sym (made-count (slotAt held))
 
       room : (length rest₀ - at) - length (slotBytes (made (slotAt held))) ≡ length rest₀ - (at + bytes)
       room = omega (arith, turned .counted)
@@ -214,7 +222,8 @@ module _ (p : ℕ) (parents : List ℕ) (table : List (List Bool)) (own : List �
   rounds-start held rest ready = going-start p parents table own m held rest ready
 
   -- with nothing outside, the rounds that are left change nothing
-  pub rounds-stop : (r n : ℕ) (held : List ℕ) → r ≤ n → outside p (rounds road r (from held) .held) ≡ false → rounds road n (from held) ≡ rounds road r (from held)
+  pub rounds-stop : (r n : ℕ) (held : List ℕ) → r ≤ n → outside p (rounds road r (from held) .held) ≡ false
+      → rounds road n (from held) ≡ rounds road r (from held)
   unfolding rounds step
   rounds-stop r n held h e =
       forEach-stays r n step (from held) (forEach r step (from held)) h refl
@@ -234,5 +243,6 @@ module _ (p : ℕ) (parents : List ℕ) (table : List (List Bool)) (own : List �
       subst₂ (λ (then : Progress) (l : List ℕ). Going p (road .parent) then held′ rest₀ l (at + bytes) (slots + more))
       (sym (rounds-next r held₀ (subst (λ (h : List ℕ). outside p h ≡ true) (now .holding) e) ∙ round-behind road (rounds road r (from held₀))))
       (sym (put-behind rest part at (omega (arith, going-long now, now .within))))
-      (going-behind p (road .parent) (rounds road r (from held₀)) (round road (from (rounds road r (from held₀) .held))) held rest₀ rest at slots now held′ part bytes more
+      (going-behind p (road .parent) (rounds road r (from held₀)) (round road (from (rounds road r (from held₀) .held))) held rest₀ rest at slots now
+      held′ part bytes more
       (subst₂ (λ (h l : List ℕ). Going p (road .parent) (round road (from h)) held′ l part bytes more) (now .holding) (part-from rest at) lent))

@@ -2,22 +2,22 @@
 use mathlib.Core.Path.{_≡_}
 use mathlib.Core.Bool.{Bool}
 use mathlib.Core.List.{List, []}
-use Prim.Native.Nat.{ℕ, _+_, _-_, _≤_}
-use lib.ListN.{length, getD}
-use Rattle.meaning.specs.Words.{forEach}
+use Prim.Native.Nat.{ℕ, _-_, _≤_}
+use lib.ListN.{length}
 use Rattle.meaning.specs.Plan.{front, slotBytes, planBytes}
 use Rattle.meaning.specs.Conflict.{entry}
-use Rattle.meaning.specs.Rounds.{Progress, Way, ownersByLevel, recorded, round, rounds}
-use Rattle.plan.specs.Turn.{Ready, turnSlot}
+use Rattle.meaning.specs.Rounds.{Progress, Way, ownersByLevel, round, rounds}
+use Rattle.chosen.specs.TurnSlot.{byNode}
+use Rattle.plan.specs.Turn.{Ready}
 
 -- the way that the code goes by: `own` is each probe's colour, or that of its level
 abbrev pub wayBy : ℕ → List ℕ → List (List Bool) → List ℕ → ℕ → Way
 wayBy p parents table own m =
     record {
       probes = p;
-      parent = λ u. getD parents u 0;
+      parent = byNode parents;
       relation = entry table;
-      owners = ownersByLevel p (entry table) (λ v. getD own v 0);
+      owners = ownersByLevel p (entry table) (byNode own);
       colours = m;
     }
 

@@ -1,5 +1,4 @@
 -- The tests of a sheet's counts, by the code's own branches: each law rewrites the definition with the comparisons that led to one answer.
--- Assumes nothing.
 use mathlib.Core.Path.{_≡_}
 use mathlib.Core.List.{List}
 use Prim.Native.Nat.{ℕ, _+_, _*_, _/_, _≤_, _<_}
@@ -9,7 +8,7 @@ use lib.Dec.{ltb}
 use lib.ListN.{length}
 use Rattle.meaning.specs.Sheet.{probeCount, pairCountAt, pairCount, sheetLength}
 use Rattle.meaning.specs.Answer.{given, _then_, countsTest}
-use Rattle.sheet.specs.Yard.{ofTheSheet}
+use Rattle.sheet.specs.Tree.{ofTheSheet}
 
 -- the counts are there and possible: what is left to test is the sheet's length
 pub record Possible (s : List ℕ) : Type 0 where

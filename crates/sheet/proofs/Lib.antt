@@ -1,6 +1,8 @@
--- Laws that the proofs of several functions cite.
+-- Laws that the proofs of several functions cite, and what callers may count on (Standing).
 pub mod Records
 pub mod Scan
 pub mod Counts
 pub mod Parts
+pub mod Walking
 pub mod Reading
+pub mod Standing

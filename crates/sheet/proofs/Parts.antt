@@ -1,4 +1,4 @@
--- The rest of a sheet, and the numbers and lists that are read of it, as the code comes by them. Assumes nothing.
+-- The rest of a sheet, and the numbers and lists that are read of it, as the code comes by them.
 use mathlib.Core.Path.{_≡_, sym, ap, ap₂, _∙_}
 use mathlib.Core.List.{List}
 use Prim.Native.Nat.{ℕ, _+_, _-_, _*_, _≤_, _<_}
@@ -7,7 +7,7 @@ use lib.ListN.{length, getD, take, drop, length-drop, drop-of-length-le}
 use lib.Seq.{take-all, drop-length}
 use Rattle.meaning.specs.Sheet.{pairCountAt, pairCount}
 use Rattle.laws.proofs.Walk.{probe-yes, probe-below, probe-past}
-use Rattle.sheet.specs.Yard.{recordByte}
+use Rattle.sheet.specs.Tree.{recordByte}
 
 pub rest-within : (s : List ℕ) (at : ℕ) → take (length s - at) (drop at s) ≡ drop at s
 rest-within s at = take-all (length s - at) (drop at s) (omega (arith, length-drop at s))

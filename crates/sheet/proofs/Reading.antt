@@ -1,21 +1,25 @@
--- The whole of a sheet's tests, stage by stage as the code takes them: `o` is what a stage answered. A stage that gives a number decides, and the
--- last stage decides where none before it did. Assumes nothing.
+-- The whole reading of a sheet, stage by stage as the code takes it: `o` is what a stage answered. A stage that gives a number decides, and where none
+-- does the tree has the sheet's own numbers.
 use mathlib.Core.Path.{_≡_, refl, sym, ap, ap₂, _∙_, fun-ext}
-use mathlib.Core.Bool.{true, false}
+use mathlib.Core.Bool.{Bool, true, false, cond}
 use mathlib.Core.List.{List}
-use Prim.Native.Nat.{ℕ, _≤_}
+use Prim.Native.Nat.{ℕ, _+_, _*_, _≤_}
 use native.Mathlib.Nat.{add-zero}
 use native.Mathlib.Omega.{arith}
 use borrow.Author.Tests.{eq-eqb, ne-eqb, ltb-false}
-use lib.ListN.{getD}
+use lib.ListN.{getD, replicate}
 use Rattle.meaning.specs.declared.Outcome.{Outcome}
 use Rattle.meaning.specs.Words.{tab, places}
-use Rattle.meaning.specs.Sheet.{probeCount, probeRecords, pairCount, pairRecords, parentOf, packetsOf}
+use Rattle.meaning.specs.Yard.{levelBy, hopsOf}
+use Rattle.meaning.specs.Sheet.{probeCount, probeRecords, pairCount, pairRecords, parentOf, packetsOf, levelOf, hops}
+use Rattle.meaning.specs.Colour.{levels}
 use Rattle.meaning.specs.Answer.{isAccepted, _then_, inOrder, probeTest, walkTest, pairTest, countsTest, sheetTest}
-use Rattle.laws.proofs.Turns.{getD-places}
+use Rattle.laws.proofs.Turns.{sum-same, getD-tab, getD-places}
 use Rattle.laws.proofs.Walk.{probe-past}
 use Rattle.laws.proofs.Accepted.{then-stays, then-goes, then-accepted, given-accepted, parent-outside}
-use Rattle.sheet.specs.Yard.{recordByte, refusedYard, yardOf}
+use Rattle.laws.proofs.Grounds as Grounds
+use Rattle.sheet.specs.declared.Walks.{Walks}
+use Rattle.sheet.specs.Tree.{recordByte, walksOf, refusedTree, treeOf}
 
 module _ (s : List ℕ) where
   abbrev pub probesAnswer : Outcome
@@ -66,9 +70,14 @@ pairs-read s records p q pIs qIs recordsIs =
     ∙ ap (λ (n : ℕ). inOrder (pairCount s) (pairTest (pairRecords s) n)) pIs
 
 module _ (s : List ℕ) where
+  -- a number is given: there is no tree
+  refused : (o : Outcome) → (o .number ≡ 0 → ⊥) → o ≡ sheetTest s → refusedTree o ≡ treeOf s
+  unfolding treeOf
+  refused o some is = simp (number-given o _ is some, is)
+
   -- the counts decide
-  pub counts-decide : (o : Outcome) → o ≡ countsTest s → (o .number ≡ 0 → ⊥) → o ≡ sheetTest s
-  counts-decide o is some = is ∙ sym (then-stays _ _ (number-given o _ is some)) ∙ stages s
+  pub counts-decide : (o : Outcome) → o ≡ countsTest s → (o .number ≡ 0 → ⊥) → refusedTree o ≡ treeOf s
+  counts-decide o is some = refused o some (is ∙ sym (then-stays _ _ (number-given o _ is some)) ∙ stages s)
 
   module _ (counts : isAccepted (countsTest s) ≡ true) where
     pub few-probes : probeCount s ≤ 63
@@ -76,40 +85,66 @@ module _ (s : List ℕ) where
     few-probes = ltb-false 63 (probeCount s) (given-accepted 2 0 _ refl (then-accepted _ _ (then-accepted _ _ counts .1) .0))
 
     -- the probes decide
-    pub probes-decide : (o : Outcome) → o ≡ probesAnswer s → (o .number ≡ 0 → ⊥) → o ≡ sheetTest s
+    pub probes-decide : (o : Outcome) → o ≡ probesAnswer s → (o .number ≡ 0 → ⊥) → refusedTree o ≡ treeOf s
     probes-decide o is some =
-        is ∙ sym (then-stays _ _ (number-given o _ is some)) ∙ sym (then-goes _ _ counts) ∙ stages s
+        refused o some (is ∙ sym (then-stays _ _ (number-given o _ is some)) ∙ sym (then-goes _ _ counts) ∙ stages s)
 
     -- the parents by node, read at any number
     parent-read : (v : ℕ) → getD (tab places (parentOf s)) v 0 ≡ parentOf s v
     parent-read = getD-places (parentOf s) 0 (λ v past. parent-outside s v (probe-past (probeCount s) v (omega (arith, few-probes))))
 
-    pub walks-read : (p : ℕ) (parents : List ℕ) → p ≡ probeCount s → parents ≡ tab places (parentOf s)
-        → inOrder p (walkTest (λ v. getD parents v 0) p) ≡ walksAnswer s
-    walks-read p parents pIs is =
-        ap₂ (λ (n : ℕ) (parent : ℕ → ℕ). inOrder n (walkTest parent n)) pIs
-        (fun-ext (λ v. ap (λ (l : List ℕ). getD l v 0) is ∙ parent-read v))
+    -- the walks of what was read are the sheet's
+    module _ (p : ℕ) (parents : List ℕ) (walks : Walks) (pIs : p ≡ probeCount s) (parentsIs : parents ≡ tab places (parentOf s))
+        (is : walks ≡ walksOf (λ v. getD parents v 0) p) where
+      walks-are : walks ≡ walksOf (parentOf s) (probeCount s)
+      walks-are =
+          is
+          ∙ ap₂ (λ (n : ℕ) (parent : ℕ → ℕ). walksOf parent n) pIs
+          (fun-ext (λ v. ap (λ (l : List ℕ). getD l v 0) parentsIs ∙ parent-read v))
+
+      pub walks-read : walks .outcome ≡ walksAnswer s
+      unfolding walksOf
+      walks-read = ap (λ (w : Walks). w .outcome) walks-are
+
+      pub levels-read : isAccepted (walksAnswer s) ≡ true → walks .levels ≡ levels s
+      unfolding walksOf levels levelOf
+      levels-read all =
+          ap (λ (w : Walks). w .levels) walks-are
+          ∙ ap (λ (b : Bool). cond b (tab places (levelBy (probeCount s) (parentOf s))) (replicate places 0)) all
 
     module _ (probes : isAccepted (probesAnswer s) ≡ true) where
       behind-probes : (walksAnswer s then pairsAnswer s) ≡ sheetTest s
       behind-probes = sym (then-goes _ _ probes) ∙ sym (then-goes _ _ counts) ∙ stages s
 
       -- the walks decide
-      pub walks-decide : (o : Outcome) → o ≡ walksAnswer s → (o .number ≡ 0 → ⊥) → o ≡ sheetTest s
-      walks-decide o is some = is ∙ sym (then-stays _ _ (number-given o _ is some)) ∙ behind-probes
+      pub walks-decide : (o : Outcome) → o ≡ walksAnswer s → (o .number ≡ 0 → ⊥) → refusedTree o ≡ treeOf s
+      walks-decide o is some = refused o some (is ∙ sym (then-stays _ _ (number-given o _ is some)) ∙ behind-probes)
 
-      -- the pairs decide, whatever they answer
-      pub pairs-decide : isAccepted (walksAnswer s) ≡ true → pairsAnswer s ≡ sheetTest s
-      pairs-decide walks = sym (then-goes _ _ walks) ∙ behind-probes
+      module _ (walks : isAccepted (walksAnswer s) ≡ true) (o : Outcome) (is : o ≡ pairsAnswer s) where
+        whole : o ≡ sheetTest s
+        whole = is ∙ sym (then-goes _ _ walks) ∙ behind-probes
 
-  -- a sheet that is refused, and one that is accepted
-  pub read-refused : (o : Outcome) → o ≡ sheetTest s → (o .number ≡ 0 → ⊥) → refusedYard o ≡ yardOf s
-  unfolding yardOf
-  read-refused o is some = simp (number-given o _ is some, is)
+        -- the pairs decide
+        pub pairs-decide : (o .number ≡ 0 → ⊥) → refusedTree o ≡ treeOf s
+        pairs-decide some = refused o some whole
 
-  pub read-accepted : (o : Outcome) (p : ℕ) (parents packets : List ℕ) → o ≡ sheetTest s → o .number ≡ 0 → p ≡ probeCount s
-      → parents ≡ tab places (parentOf s) → packets ≡ tab places (packetsOf s)
-      → record { outcome = o; probes = p; parents = parents; packets = packets } ≡ yardOf s
-  unfolding yardOf
-  read-accepted o p parents packets is none pIs parentsIs packetsIs =
-      simp (no-number o _ is none, is, pIs, parentsIs, packetsIs)
+        -- no number is given
+        module _ (none : o .number ≡ 0) where
+          accepted : isAccepted (sheetTest s) ≡ true
+          accepted = no-number o _ whole none
+
+          hops-read : hopsOf (probeCount s) (λ v. getD (tab places (packetsOf s)) v 0) (λ v. getD (levels s) v 0) ≡ hops s
+          unfolding hops levels
+          hops-read =
+              sum-same (probeCount s) (λ k. getD (tab places (packetsOf s)) (k + 2) 0 * getD (tab places (levelOf s)) (k + 2) 0)
+              (λ k. packetsOf s (k + 2) * levelOf s (k + 2))
+              (λ k h.
+              ap₂ _*_ (Grounds.packets-read s accepted (k + 2)) (getD-tab places (levelOf s) (k + 2) 0 (omega (arith, few-probes))))
+
+          pub tree-read : (p : ℕ) (parents packets its-levels : List ℕ) (its-hops : ℕ) → p ≡ probeCount s → parents ≡ tab places (parentOf s)
+              → packets ≡ tab places (packetsOf s) → its-levels ≡ levels s
+              → its-hops ≡ hopsOf p (λ v. getD packets v 0) (λ v. getD its-levels v 0)
+              → record { outcome = o; probes = p; parents = parents; packets = packets; levels = its-levels; hops = its-hops } ≡ treeOf s
+          unfolding treeOf
+          tree-read p parents packets its-levels its-hops pIs parentsIs packetsIs levelsIs hopsIs =
+              simp (accepted, hopsIs, whole, pIs, parentsIs, packetsIs, levelsIs, hops-read)

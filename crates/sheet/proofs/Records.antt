@@ -1,5 +1,5 @@
 -- The tests of one record as the code makes them: `a` and `b` are the two bytes that it read, and `wrong` is what a comparison of them said. Each law
--- rewrites the definition with what is known at one of the code's answers. Assumes nothing.
+-- rewrites the definition with what is known at one of the code's answers.
 use mathlib.Core.Path.{_≡_}
 use mathlib.Core.Bool.{Bool, true, false, _||_, _&&_}
 use mathlib.Core.List.{List}

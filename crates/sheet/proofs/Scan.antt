@@ -1,4 +1,4 @@
--- A scan that stops at the first number given: one invariant and its four laws, for every section of a sheet. Assumes nothing.
+-- A scan that stops at the first number given: one invariant and its four laws, for every section of a sheet.
 use mathlib.Core.Path.{_≡_, refl, sym, ap, _∙_}
 use mathlib.Core.Bool.{true}
 use Prim.Native.Nat.{ℕ, _+_, _≤_, _<_}

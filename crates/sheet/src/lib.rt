@@ -1,24 +1,33 @@
-// Reads a yard sheet: its first refusal, or the yard that it describes.
+// Reads a yard sheet once: its first refusal, or the tree that it describes; and the conflict table of the sheet.
 ghost use mathlib.Core.Path.{_≡_};
 ghost use Prim.Native.Nat.{_<_, _≤_};
 ghost use mathlib.Core.Bool.{_||_, _&&_};
 ghost use lib.Dec.{eqb, ltb, leb};
 ghost use lib.ListN.{getD, drop};
 ghost use Rattle.meaning.specs.Words.{tab, places};
-ghost use Rattle.meaning.specs.Sheet.{probeRecords, pairCountAt, pairCount, pairRecords};
-ghost use Rattle.meaning.specs.Answer.{inOrder, probeTest, walkGives, walkTest, pairTest, countsTest, sheetTest};
-ghost use Rattle.sheet.specs.Yard.{ofTheSheet, recordByte, refusedYard, yardOf};
+ghost use Rattle.meaning.specs.Sheet.{probeRecords, pairCountAt, pairCount, pairRecords, interfere};
+ghost use Rattle.meaning.specs.Conflict.{conflict, tableOf};
+ghost use Rattle.meaning.specs.Answer.{inOrder, probeTest, pairTest, countsTest};
+ghost use Rattle.sheet.specs.Tree.{ofTheSheet, recordByte, strayed, walksOf, refusedTree, treeOf};
 use meaning::Node;
 use meaning::Outcome;
 use meaning::Probe;
 use meaning::Walk;
 
-// What a sheet is read as; the parents and the packets stand by node, and all is 0 where it is refused.
-pub struct Yard {
+// What a sheet is read as; parents, packets and levels stand by node, and all is 0 where it is refused.
+pub struct Tree {
     pub outcome: Outcome,
     pub probes: u8,
     pub parents: [u8; 65],
     pub packets: [u8; 65],
+    pub levels: [u8; 65],
+    pub hops: u32,
+}
+
+// What the probes' walks come to; the levels stand by node, and are 0 where a probe never arrives.
+struct Walks {
+    outcome: Outcome,
+    levels: [u8; 65],
 }
 
 // The rest of a sheet from a place on; nothing past its end.
@@ -37,7 +46,7 @@ fn pair_count_at(sheet: &[u8]) -> usize
 }
 
 // q, the number of interfering pairs.
-pub fn pair_count(sheet: &[u8]) -> u16
+fn pair_count(sheet: &[u8]) -> u16
     ensures { λ r. ⌜ r ≡ pairCount (now (sheet .entry)) ⌝ }
 {
     let at = pair_count_at(sheet);
@@ -52,7 +61,7 @@ fn probe_records(sheet: &[u8]) -> &[u8]
 }
 
 // The pairs' records: the rest of the sheet behind q.
-pub fn pair_records(sheet: &[u8]) -> &[u8]
+fn pair_records(sheet: &[u8]) -> &[u8]
     ensures { λ r. ⌜ now r ≡ pairRecords (now (sheet .entry)) ⌝ }
 {
     let at = pair_count_at(sheet);
@@ -195,48 +204,43 @@ fn packets(records: &[u8], p: u8) -> [u8; 65]
     by_node(records, p, 1)
 }
 
-// What the end of a probe's walk gives.
-fn walk_gives(probe: Probe, end: Walk) -> Outcome
-    ensures { λ r. ⌜ r ≡ walkGives (probe .0) end ⌝ }
+// The walks of a yard where this probe never arrives.
+fn strayed(probe: Probe) -> Walks
+    ensures { λ r. ⌜ r ≡ strayed (probe .0) ⌝ }
 {
-    match end {
-        Walk::Arrives(_) => Outcome {
-            number: 0,
-            place: 0,
-        },
-        Walk::Never => Outcome {
+    Walks {
+        outcome: Outcome {
             number: 6,
             place: probe.0 as u16,
         },
+        levels: [0u8; 65],
     }
 }
 
-// 6 of probe k + 2.
-fn walk_test(parents: &[u8; 65], p: u8, k: u8) -> Outcome
-    requires { ⌜ k < 63 ⌝ }
-    ensures { λ r. ⌜ r ≡ walkTest (λ v. getD (now (parents .entry)) v 0) p k ⌝ }
-{
-    let probe = k + 2;
-    let end = walk::climb(parents, Node(probe), p);
-    walk_gives(Probe(probe), end)
-}
-
-// The probes' walks in rising number, up to the first that never arrives.
-fn walks_test(parents: &[u8; 65], p: u8) -> Outcome
+// The probes' walks in rising number, up to the first that never arrives: 6, or the level of each.
+fn walks_test(parents: &[u8; 65], p: u8) -> Walks
     requires { ⌜ p ≤ 63 ⌝ }
-    ensures { λ r. ⌜ r ≡ inOrder p (walkTest (λ v. getD (now (parents .entry)) v 0) p) ⌝ }
+    ensures { λ r. ⌜ r ≡ walksOf (λ v. getD (now (parents .entry)) v 0) p ⌝ }
 {
-    let mut found = Outcome {
-        number: 0,
-        place: 0,
-    };
+    let mut levels = [0u8; 65];
     for k in 0..p {
-        found = walk_test(parents, p, k);
-        if found.number != 0 {
-            return found;
+        let probe = k + 2;
+        match walk::climb(parents, Node(probe), p) {
+            Walk::Arrives(level) => {
+                levels[probe as usize] = level.0;
+            }
+            Walk::Never => {
+                return strayed(Probe(probe));
+            }
         }
     }
-    found
+    Walks {
+        outcome: Outcome {
+            number: 0,
+            place: 0,
+        },
+        levels,
+    }
 }
 
 // A pair with a = 0, a ≥ b or b > n.
@@ -308,56 +312,60 @@ fn pairs_test(records: &[u8], p: u8, q: u16) -> Outcome
     found
 }
 
-// The sheet's tests in document 01's order: counts, probes, walks, pairs.
-fn sheet_test(sheet: &[u8]) -> Outcome
-    ensures { λ r. ⌜ r ≡ sheetTest (now (sheet .entry)) ⌝ }
-{
-    let counts = counts_test(sheet);
-    if counts.number != 0 {
-        return counts;
-    }
-    let p = laws::number_at(sheet, 0);
-    let records = probe_records(sheet);
-    let probes = probes_test(records, p);
-    if probes.number != 0 {
-        return probes;
-    }
-    let parents = parents(records, p);
-    let walks = walks_test(&parents, p);
-    if walks.number != 0 {
-        return walks;
-    }
-    pairs_test(pair_records(sheet), p, pair_count(sheet))
-}
-
 // What a refused sheet is read as.
-fn refused(outcome: Outcome) -> Yard
-    ensures { λ r. ⌜ r ≡ refusedYard outcome ⌝ }
+fn refused(outcome: Outcome) -> Tree
+    ensures { λ r. ⌜ r ≡ refusedTree outcome ⌝ }
 {
-    Yard {
+    Tree {
         outcome,
         probes: 0,
         parents: [0u8; 65],
         packets: [0u8; 65],
+        levels: [0u8; 65],
+        hops: 0,
     }
 }
 
-// Reads a sheet whole.
-pub fn read(sheet: &[u8]) -> Yard
-    ensures { λ r. ⌜ r ≡ yardOf (now (sheet .entry)) ⌝ }
+// Reads a sheet whole, by the tests in document 01's order: counts, probes, walks, pairs.
+pub fn read(sheet: &[u8]) -> Tree
+    ensures { λ r. ⌜ r ≡ treeOf (now (sheet .entry)) ⌝ }
 {
-    let outcome = sheet_test(sheet);
-    if outcome.number != 0 {
-        return refused(outcome);
+    let counts = counts_test(sheet);
+    if counts.number != 0 {
+        return refused(counts);
     }
     let probes = laws::number_at(sheet, 0);
     let records = probe_records(sheet);
+    let tested = probes_test(records, probes);
+    if tested.number != 0 {
+        return refused(tested);
+    }
     let parents = parents(records, probes);
+    let walks = walks_test(&parents, probes);
+    let walked = walks.outcome;
+    if walked.number != 0 {
+        return refused(walked);
+    }
+    let outcome = pairs_test(pair_records(sheet), probes, pair_count(sheet));
+    if outcome.number != 0 {
+        return refused(outcome);
+    }
     let packets = packets(records, probes);
-    Yard {
+    let levels = walks.levels;
+    let hops = walk::hops(probes, &packets, &levels);
+    Tree {
         outcome,
         probes,
         parents,
         packets,
+        levels,
+        hops,
     }
+}
+
+// The conflict table of a sheet, by its tree; its pairs are handed on as they stand.
+pub fn conflicts(sheet: &[u8], p: u8, parents: [u8; 65]) -> [[bool; 65]; 65]
+    ensures { λ r. ⌜ r ≡ tableOf (conflict p (λ v. getD parents v 0) (interfere (pairRecords (now (sheet .entry))) (pairCount (now (sheet .entry))))) ⌝ }
+{
+    conflict::table(p, parents, pair_records(sheet), pair_count(sheet))
 }

@@ -1,25 +1,18 @@
 -- What a walk answers at the gateway, with no hop left, and after a hop: each law goes by what the definitions say of one hop.
--- Assumes nothing.
 use mathlib.Core.Path.{_≡_, refl, sym, ap, ap₂, _∙_, subst}
 use mathlib.Core.Bool.{Bool, true, false, cond}
-use mathlib.Core.List.{List}
 use Prim.Native.Nat.{ℕ, suc, _+_, _-_, _*_, _≤_, _<_, max}
 use native.Mathlib.Nat.{mul-le-mul, max-eq-left, max-eq-right, le-of-lt}
 use native.Mathlib.Numerals.{add-one}
 use native.Mathlib.Omega.{arith}
-use lib.ListN.{getD}
 use borrow.Author.Tests.{ne-eqb}
 use Rattle.meaning.specs.declared.Level.{Level}
 use Rattle.meaning.specs.declared.Walk.{Walk}
 use Rattle.meaning.specs.declared.Walk.the-variants.{Arrives, Never}
-use Rattle.meaning.specs.Yard.{reaches, climb, climbed, levelBy}
+use Rattle.meaning.specs.Yard.{reaches, climb, climbed}
 use Rattle.meaning.specs.Words.{most}
 use Rattle.laws.proofs.Turns.{most-one}
-use Rattle.laws.proofs.Walk.{probe-yes, probe-below, probe-past, reaches-here, climb-here, reaches-on, climb-on, climb-most, climb-never}
-
--- the parents that a table by node says
-abbrev pub parentIn : List ℕ → ℕ → ℕ
-parentIn parents v = getD parents v 0
+use Rattle.laws.proofs.Walk.{reaches-here, climb-here, reaches-on, climb-on, climb-most, climb-never}
 
 -- the answer of a walk from the answer of the walk from its parent
 abbrev pub further : Walk → Walk
@@ -69,16 +62,6 @@ module _ (parent : ℕ → ℕ) where
   pub climbed-most : (left v : ℕ) (walk : Walk) (level : Level) → walk ≡ climbed parent left v → walk ≡ Arrives level → level .0 ≤ left
   climbed-most left v walk level e is =
       subst (λ (n : ℕ). n ≤ left) (sym (ap (levelIn left) (sym is ∙ e) ∙ climbed-level left v)) (climb-most parent left v)
-
-  -- the level of a node that is no probe, and of a probe from where its walk ends
-  pub level-below : (p v : ℕ) → v < 2 → 0 ≡ levelBy p parent v
-  level-below p v low = rw (probe-below p v low)
-
-  pub level-past : (p v : ℕ) → p < v - 1 → 0 ≡ levelBy p parent v
-  level-past p v high = rw (probe-past p v (omega arith))
-
-  pub level-probe : (p v : ℕ) (walk found : Walk) → 2 ≤ v → v - 1 ≤ p → walk ≡ climbed parent p v → walk ≡ found → levelIn p found ≡ levelBy p parent v
-  level-probe p v walk found low high e is = rw (probe-yes p v low (omega arith)) (ap (levelIn p) (sym is ∙ e) ∙ climbed-level p v)
 
 -- what a product of two bytes comes to at most
 pub product-most : (a b : ℕ) → a < 256 → b < 256 → a * b ≤ 65025

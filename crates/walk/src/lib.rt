@@ -1,10 +1,9 @@
-// Walking from parent to parent: levels, hops and the depth of a yard. Tables are by node; outside them every number is 0.
+// Walking from parent to parent, and what levels come to: hops and the depth of a yard. Tables are by node; outside them every number is 0.
 ghost use mathlib.Core.Path.{_≡_};
 ghost use Prim.Native.Nat.{_*_, _≤_};
 ghost use lib.ListN.{getD};
 ghost use Rattle.meaning.specs.Words.{mostProbes};
-ghost use Rattle.meaning.specs.Yard.{climbed, levelBy, hopsOf};
-ghost use Rattle.walk.specs.Levels.{levelsBy};
+ghost use Rattle.meaning.specs.Yard.{climbed, hopsOf};
 use meaning::Level;
 use meaning::Node;
 use meaning::Walk;
@@ -25,37 +24,6 @@ pub fn climb(parents: &[u8; 65], v: Node, left: u8) -> Walk
         Walk::Arrives(level) => Walk::Arrives(Level(level.0 + 1)),
         Walk::Never => Walk::Never,
     }
-}
-
-// The level of a node, 0 if it is no probe; p hops are enough for any walk that arrives.
-fn level_at(parents: &[u8; 65], p: u8, v: Node) -> Level
-    ensures { λ r. ⌜ r .0 ≡ levelBy p (λ u. getD (now (parents .entry)) u 0) (v .0) ⌝ }
-{
-    let node = v.0;
-    if node < 2 {
-        return Level(0);
-    }
-    if p < node - 1 {
-        return Level(0);
-    }
-    match climb(parents, v, p) {
-        Walk::Arrives(level) => level,
-        Walk::Never => Level(p),
-    }
-}
-
-// The levels of a yard of p probes, by node.
-pub fn levels(parents: &[u8; 65], p: u8) -> [u8; 65]
-    ensures { λ r. ⌜ r ≡ levelsBy p (λ u. getD (now (parents .entry)) u 0) ⌝ }
-{
-    let mut levels = [0u8; 65];
-    let mut v: u8 = 0;
-    while v < 65 {
-        let level = level_at(parents, p, Node(v));
-        levels[v as usize] = level.0;
-        v += 1;
-    }
-    levels
 }
 
 // The hops of one node: its packets times its level.

@@ -199,8 +199,8 @@ fn within(n: usize, buf: &[u8]) -> usize
 
 // Lists the sheet; a refusal is said with its meaning.
 fn list(sheet: &[u8]) {
-    let yard = sheet::read(sheet);
-    let outcome = yard.outcome;
+    let tree = sheet::read(sheet);
+    let outcome = tree.outcome;
     if outcome.number != 0 {
         say_refused(outcome);
         return;

@@ -1,5 +1,4 @@
 -- `branch::all_packets` meets its contract. The invariant: so far it is the sum over the first k probes, each at most 255. The measure is what is left of p.
--- Assumes nothing.
 use mathlib.Core.Path.{_≡_, refl, sym, ap₂, _∙_}
 use Prim.Native.Nat.{_+_, _-_, _*_, _≤_}
 use lib.ListN.{getD}

@@ -1,5 +1,5 @@
 -- `branch::branch` meets its contract. The invariant: so far it is the sum over the first k probes, each at most 255; one past the table adds
--- nothing. The measure is what is left of p. Assumes nothing.
+-- nothing. The measure is what is left of p.
 use mathlib.Core.Path.{_≡_, refl, sym, ap₂, _∙_}
 use mathlib.Core.Logic.{⊎-elim}
 use mathlib.Core.Bool.{cond}

@@ -1,5 +1,4 @@
 -- `branch::brought` meets its contract: it goes by whether the walk comes to the top.
--- Assumes nothing.
 use Rattle.branch.proofs.Walking.{brings, brings-none}
 use borrow.Author.Needs.{needs}
 use Rattle.branch.proofs.brought.Statement.{statement}

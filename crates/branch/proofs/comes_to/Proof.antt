@@ -1,5 +1,4 @@
 -- `branch::comes_to` meets its contract. The invariant: the walk from here, in the hops that are left, answers the whole. The measure is what is left.
--- Assumes nothing.
 use mathlib.Core.Path.{_≡_, refl, sym, _∙_}
 use lib.ListN.{getD}
 use Rattle.meaning.specs.Yard.{reaches}

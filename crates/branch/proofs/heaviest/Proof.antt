@@ -1,5 +1,5 @@
 -- `branch::heaviest` meets its contract. The invariant: so far it is the most over the first k tops; one that is no byte has an empty branch.
--- The measure is what is left of p. Assumes nothing.
+-- The measure is what is left of p.
 use mathlib.Core.Path.{_≡_, refl, _∙_}
 use mathlib.Core.Logic.{⊎-elim}
 use Prim.Native.Nat.{_+_, _-_, _≤_}

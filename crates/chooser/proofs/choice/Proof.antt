@@ -1,4 +1,4 @@
--- `chooser::choice` meets its contract: the choice between the two verdicts. Assumes nothing.
+-- `chooser::choice` meets its contract: the choice between the two verdicts.
 use Rattle.chooser.proofs.Choosing.{chosen}
 use borrow.Author.Needs.{needs}
 use Rattle.chooser.proofs.choice.Statement.{statement}

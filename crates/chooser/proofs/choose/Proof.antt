@@ -1,4 +1,4 @@
--- `chooser::choose` meets its contract: each arm hands back what its choice says. Assumes nothing.
+-- `chooser::choose` meets its contract: each arm hands back what its choice says.
 use mathlib.Core.Path.{_≡_, refl, sym, _∙_}
 use denote.Ref.{now}
 use Rattle.meaning.specs.declared.Choice.the-variants.{Neither, First, Second}

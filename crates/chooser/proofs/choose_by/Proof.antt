@@ -1,4 +1,4 @@
--- `chooser::choose_by` meets its contract: each way through the tests is one of the choice's. Assumes nothing.
+-- `chooser::choose_by` meets its contract: each way through the tests is one of the choice's.
 use Rattle.chooser.proofs.Choosing.{none-passes, second-passes, first-passes, first-shorter, second-shorter}
 use Rattle.chooser.proofs.choose_by.Statement.{statement}
 use Rattle.chooser.proofs.choose_by.Tie as tie

@@ -1,5 +1,4 @@
 -- `conflict::heard_at` meets its contract: a node that is no probe has an empty row, and a probe the row of its parent.
--- Assumes nothing.
 use denote.Ref.{now}
 use borrow.Author.Needs.{needs}
 use Rattle.conflict.proofs.Hearing.{none-heard, some-heard}
@@ -14,8 +13,8 @@ returns c =
     let start = c .before .before .args in
     none-heard (now (start .probes)) (now (start .parents)) (now (start .pairs)) (start .x) (c .if1 .taken)
 
-number-of-requires : tie.Need-number-of-requires
-number-of-requires c κs = search needs
+number-at-requires : tie.Need-number-at-requires
+number-at-requires c κs = search needs
 
 cast-i : tie.Need-cast-i
 cast-i c = search needs
@@ -26,17 +25,18 @@ mul-heard c = search needs
 index-1-heard : tie.Need-index-1-heard
 index-1-heard c = search needs
 
-number-of-requires-2 : tie.Need-number-of-requires-2
-number-of-requires-2 c κs = search needs
+number-at-requires-2 : tie.Need-number-at-requires-2
+number-at-requires-2 c κs = search needs
 
 heard-requires : tie.Need-heard-requires
 heard-requires c κs = search needs
 
 returns-2 : tie.Need-returns-2
 returns-2 c =
-    let start = c .before .before .before .before .before .before .args in
+    let up = c .before .before .before .before in
+    let start = up .before .before .before .before .args in
     some-heard (now (start .probes)) (now (start .parents)) (now (start .pairs)) (start .x) _ _ _
-    (c .before .before .before .before .if1 .left) (c .before .before .before .number-of .ensures) (c .before .number-of2 .ensures)
+    (up .before .before .if1 .left) (up .number-at .ensures) (c .before .number-at2 .ensures)
     (c .heard .ensures)
 
 pub heard-at-spec : {M : Type 1} → statement M
@@ -45,10 +45,10 @@ heard-at-spec =
     (tie.spec
     element-copy-out-v
     returns
-    number-of-requires
+    number-at-requires
     cast-i
     mul-heard
     index-1-heard
-    number-of-requires-2
+    number-at-requires-2
     heard-requires
     returns-2)

@@ -1,5 +1,4 @@
 -- `conflict::level_table` meets its contract. The invariant: the table has the levels that meet by the probes passed.
--- Assumes nothing.
 use Prim.Native.Nat.{_+_, _≤_, _-_}
 use mathlib.Core.Logic.{⊎-elim}
 use mathlib.Core.List.{List, []}

@@ -1,5 +1,4 @@
 -- `conflict::mark` meets its contract: the two tests are those of a mark.
--- Assumes nothing.
 use mathlib.Core.Path.{sym}
 use mathlib.Core.Logic.{inl, inr}
 use borrow.Author.Needs.{needs}

@@ -1,5 +1,4 @@
 -- `conflict::mark_levels` meets its contract. The invariant: the marks of the probes passed are made.
--- Assumes nothing.
 use Prim.Native.Nat.{_≤_, _-_}
 use mathlib.Core.Logic.{⊎-elim}
 use mathlib.Core.Path.{refl, _∙_, _≡_}

@@ -1,5 +1,4 @@
 -- `conflict::pair` meets its contract: the test is that of a mark, and every byte has its row.
--- Assumes nothing.
 use mathlib.Core.Path.{sym}
 use mathlib.Core.Logic.{inr}
 use borrow.Author.Needs.{needs}

@@ -1,5 +1,4 @@
 -- `conflict::pair_table` meets its contract. The invariant: the table is made of the records passed.
--- Assumes nothing.
 use Prim.Native.Nat.{_≤_, _-_}
 use mathlib.Core.Path.{_∙_, _≡_}
 use native.Mathlib.Omega.{arith}

@@ -1,5 +1,4 @@
 -- `conflict::probe_at` meets its contract: above 1, the test of v - 1 against p is that of v against p + 1.
--- Assumes nothing.
 use borrow.Author.Needs.{needs}
 use Rattle.conflict.proofs.Hearing.{too-low, too-high, a-probe}
 use Rattle.conflict.proofs.probe_at.Statement.{statement}

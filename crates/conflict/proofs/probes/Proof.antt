@@ -1,5 +1,4 @@
 -- `conflict::probes` meets its contract. The invariant: the list is filled as far as the loop has come.
--- Assumes nothing.
 use Prim.Native.Nat.{_≤_, _-_}
 use mathlib.Core.Path.{_≡_, refl}
 use native.Mathlib.Omega.{arith}

@@ -1,5 +1,4 @@
 -- `conflict::table` meets its contract. The invariant: the table is filled as far as the loop has come.
--- Assumes nothing.
 use Prim.Native.Nat.{_≤_, _-_}
 use mathlib.Core.Path.{_≡_, refl, _∙_}
 use native.Mathlib.Omega.{arith}

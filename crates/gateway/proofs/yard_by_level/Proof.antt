@@ -1,5 +1,4 @@
 -- `gateway::yard_by_level` meets its contract: the planner's own, with its answer laid out for C.
--- Assumes nothing.
 use mathlib.Core.Path.{ap, _∙_}
 use Rattle.gateway.specs.Flat.{flatPlanned}
 use native.Mathlib.Omega.{arith}

@@ -1,5 +1,4 @@
 -- `gateway::yard_choose` meets its contract: each arm knows which choice it was.
--- Assumes nothing.
 use mathlib.Core.Path.{sym, ap, _∙_}
 use Rattle.gateway.specs.Flat.{choiceNumber}
 use native.Mathlib.Omega.{arith}

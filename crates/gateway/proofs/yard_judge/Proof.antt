@@ -1,5 +1,4 @@
 -- `gateway::yard_judge` meets its contract: the judge's own, with its answer laid out for C.
--- Assumes nothing.
 use mathlib.Core.Path.{ap, _∙_}
 use Rattle.gateway.specs.Flat.{flatVerdict}
 use native.Mathlib.Omega.{arith}

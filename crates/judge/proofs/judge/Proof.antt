@@ -1,7 +1,13 @@
--- `judge::judge` meets its contract: the sheet decides, then the count's two bytes, then the plan; an accepted sheet gives the slots what they count on. Assumes nothing.
-use mathlib.Core.Path.{_∙_}
-use Rattle.judge.proofs.Judging.{outcome-read, sheet-accepted, ready-read, table-read, plan-read, sheet-decides, count-decides, plan-decides, plan-passes}
+-- `judge::judge` meets its contract: the sheet decides, then the count's two bytes, then the plan; an accepted sheet gives the slots what they count on.
+use mathlib.Core.Path.{_≡_}
+use mathlib.Core.Bool.{true}
+use mathlib.Core.List.{List}
+use Prim.Native.Nat.{ℕ}
 use borrow.Author.Needs.{needs}
+use Rattle.meaning.specs.Answer.{isAccepted, sheetTest}
+use Rattle.meaning.specs.Judge.{planJudged}
+use Rattle.sheet.proofs.Standing.{outcome-read}
+use Rattle.judge.proofs.Judging.{sheet-accepted, ready-read, plan-read, sheet-decides, count-decides, plan-decides, plan-passes}
 use Rattle.judge.proofs.judge.Statement.{statement}
 use Rattle.judge.proofs.judge.Tie as tie
 
@@ -12,7 +18,17 @@ refused-requires : tie.Need-refused-requires
 refused-requires c κs = search needs
 
 returns : tie.Need-returns
-returns c = sheet-decides _ _ _ _ (outcome-read (c .before .before .before .before .before .before .before .args .sheet .now) (c .before .before .before .before .read .result) (c .before .before .before .before .read .ensures)) (c .before .if1 .taken) (c .refused .ensures)
+returns c =
+    let tree = c .before .before .before .before .read in
+    let start = c .before .before .before .before .before .before .before in
+    sheet-decides _ _ _ _ (outcome-read (start .args .sheet .now) (tree .result) (tree .ensures)) (c .before .if1 .taken) (c .refused .ensures)
+
+-- behind the sheet
+abbrev sheet : tie.Else1 → List ℕ
+sheet c = c .before .before .before .before .before .before .args .sheet .now
+
+passed : (c : tie.Else1) → isAccepted (sheetTest (sheet c)) ≡ true
+passed c = sheet-accepted (sheet c) (c .before .before .before .read .result) (c .before .before .before .read .ensures) (c .if1 .left)
 
 refusal-requires : tie.Need-refusal-requires
 refusal-requires c κs = search needs
@@ -21,31 +37,46 @@ refused-requires-2 : tie.Need-refused-requires-2
 refused-requires-2 c κs = search needs
 
 returns-2 : tie.Need-returns-2
-returns-2 c = count-decides _ _ (sheet-accepted (c .before .before .before .before .before .before .before .before .before .args .sheet .now) (c .before .before .before .before .before .before .read .result) (c .before .before .before .before .before .before .read .ensures) (c .before .before .before .if1 .left)) _ _ (c .before .refusal .ensures) (c .before .before .if2 .taken) (c .refused2 .ensures)
+returns-2 c =
+    count-decides _ _ (passed (c .before .before .before)) _ _ (c .before .refusal .ensures) (c .before .before .if2 .taken) (c .refused2 .ensures)
 
-pair-records-requires : tie.Need-pair-records-requires
-pair-records-requires c κs = search needs
-
-pair-count-requires : tie.Need-pair-count-requires
-pair-count-requires c κs = search needs
-
-table-requires : tie.Need-table-requires
-table-requires c κs = search needs
+-- behind the count
+conflicts-requires : tie.Need-conflicts-requires
+conflicts-requires c κs = search needs
 
 plan-test-requires : tie.Need-plan-test-requires
-plan-test-requires c κs = (c .before .before .before .before .before .before .before .if2 .left, ready-read (c .before .before .before .before .before .before .before .before .before .before .before .before .before .before .args .sheet .now) (c .before .before .before .before .before .before .before .before .before .before .before .read .result) (c .before .before .before .before .before .before .before .before .before .before .before .read .ensures) (c .before .before .before .before .before .before .before .before .if1 .left))
+plan-test-requires c κs =
+    let counted = c .before .before .before .before .before in
+    let tree = counted .before .before .before .before .read in
+    (counted .if2 .left, ready-read (sheet (counted .before)) (tree .result) (tree .ensures) (counted .before .if1 .left))
+
+abbrev counted : tie.After-plan-test → tie.Else2
+counted c = c .before .before .before .before .before .before
+
+abbrev plan : tie.After-plan-test → List ℕ
+plan c = counted c .before .before .before .before .before .before .before .args .plan .now
+
+plan-answer : (c : tie.After-plan-test) → c .plan-test .result ≡ planJudged (sheet (counted c .before)) (plan c)
+plan-answer c =
+    let tree = counted c .before .before .before .before .read in
+    plan-read (sheet (counted c .before)) (tree .result) (tree .ensures) (counted c .before .if1 .left) _ (plan c) _ (c .before .before .before .conflicts .ensures)
+    (c .plan-test .ensures)
 
 refused-requires-3 : tie.Need-refused-requires-3
 refused-requires-3 c κs = search needs
 
 returns-3 : tie.Need-returns-3
-returns-3 c = plan-decides _ _ (sheet-accepted (c .before .before .before .before .before .before .before .before .before .before .before .before .before .before .before .before .before .before .args .sheet .now) (c .before .before .before .before .before .before .before .before .before .before .before .before .before .before .before .read .result) (c .before .before .before .before .before .before .before .before .before .before .before .before .before .before .before .read .ensures) (c .before .before .before .before .before .before .before .before .before .before .before .before .if1 .left)) (c .before .before .before .before .before .before .before .before .before .before .before .if2 .left) _ (c .before .before .before .plan-test .ensures ∙ plan-read (c .before .before .before .before .before .before .before .before .before .before .before .before .before .before .before .before .before .before .args .sheet .now) (c .before .before .before .before .before .before .before .before .before .before .before .before .before .before .before .read .result) (c .before .before .before .before .before .before .before .before .before .before .before .before .before .before .before .read .ensures) (c .before .before .before .before .before .before .before .before .before .before .before .before .if1 .left) _ _ (table-read (c .before .before .before .before .before .before .before .before .before .before .before .before .before .before .before .before .before .before .args .sheet .now) (c .before .before .before .before .before .before .before .before .before .before .before .before .before .before .before .read .result) (c .before .before .before .before .before .before .before .before .before .before .before .before .before .before .before .read .ensures) (c .before .before .before .before .before .before .before .before .before .before .before .before .if1 .left) _ _ _ (c .before .before .before .before .before .before .before .before .pair-records .ensures) (c .before .before .before .before .before .before .before .pair-count .ensures) (c .before .before .before .before .before .before .table .ensures))) _ (c .before .if3 .taken) (c .refused3 .ensures)
+returns-3 c =
+    let tested = c .before .before .before in
+    plan-decides _ _ (passed (counted tested .before)) (counted tested .if2 .left) _ (plan-answer tested) _ (c .before .if3 .taken) (c .refused3 .ensures)
 
 slot-count-requires : tie.Need-slot-count-requires
 slot-count-requires c κs = search needs
 
 returns-4 : tie.Need-returns-4
-returns-4 c = plan-passes _ _ (sheet-accepted (c .before .before .before .before .before .before .before .before .before .before .before .before .before .before .before .before .before .before .args .sheet .now) (c .before .before .before .before .before .before .before .before .before .before .before .before .before .before .before .read .result) (c .before .before .before .before .before .before .before .before .before .before .before .before .before .before .before .read .ensures) (c .before .before .before .before .before .before .before .before .before .before .before .before .if1 .left)) (c .before .before .before .before .before .before .before .before .before .before .before .if2 .left) _ (c .before .before .before .plan-test .ensures ∙ plan-read (c .before .before .before .before .before .before .before .before .before .before .before .before .before .before .before .before .before .before .args .sheet .now) (c .before .before .before .before .before .before .before .before .before .before .before .before .before .before .before .read .result) (c .before .before .before .before .before .before .before .before .before .before .before .before .before .before .before .read .ensures) (c .before .before .before .before .before .before .before .before .before .before .before .before .if1 .left) _ _ (table-read (c .before .before .before .before .before .before .before .before .before .before .before .before .before .before .before .before .before .before .args .sheet .now) (c .before .before .before .before .before .before .before .before .before .before .before .before .before .before .before .read .result) (c .before .before .before .before .before .before .before .before .before .before .before .before .before .before .before .read .ensures) (c .before .before .before .before .before .before .before .before .before .before .before .before .if1 .left) _ _ _ (c .before .before .before .before .before .before .before .before .pair-records .ensures) (c .before .before .before .before .before .before .before .pair-count .ensures) (c .before .before .before .before .before .before .table .ensures))) _ (c .slot-count .ensures) (c .before .if3 .left)
+returns-4 c =
+    let tested = c .before .before .before in
+    plan-passes _ _ (passed (counted tested .before)) (counted tested .if2 .left) _ (plan-answer tested) _ (c .slot-count .ensures) (c .before .if3 .left)
 
 pub judge-spec : {M : Type 1} → statement M
 judge-spec =
@@ -57,9 +88,7 @@ judge-spec =
     refusal-requires
     refused-requires-2
     returns-2
-    pair-records-requires
-    pair-count-requires
-    table-requires
+    conflicts-requires
     plan-test-requires
     refused-requires-3
     returns-3

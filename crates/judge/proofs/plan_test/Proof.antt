@@ -1,4 +1,4 @@
--- `judge::plan_test` meets its contract: the slots decide, then 16, then 17. Assumes nothing.
+-- `judge::plan_test` meets its contract: the slots decide, then 16, then 17.
 use mathlib.Core.Path.{sym, subst}
 use mathlib.Core.List.{List}
 use Prim.Native.Nat.{ℕ}
@@ -18,16 +18,23 @@ wide-requires c κs = search needs
 slots-judged-requires : tie.Need-slots-judged-requires
 slots-judged-requires c κs =
     let start = c .before .before .before .before in
-    (start .pre .0, subst (λ (l : List ℕ). Ready (start .args .p) (λ u. getD (start .args .parents .now) u 0) l) (sym (c .before .wide .ensures)) (start .pre .1))
+    let a = start .args in
+    (start .pre .0, subst (λ (l : List ℕ). Ready (a .p) (λ u. getD (a .parents .now) u 0) l) (sym (c .before .wide .ensures)) (start .pre .1))
 
 returns : tie.Need-returns
-returns c = slots-decide _ _ _ _ _ _ (c .before .before .before .before .before .before .slot-count .ensures) _ (c .before .before .before .before .before .wide .ensures) _ _ _ (c .before .before .before .slots-judged .ensures) (c .if1 .taken)
+returns c =
+    let judged = c .before .before .before in
+    slots-decide _ _ _ _ _ _ (judged .before .before .before .slot-count .ensures) _ (judged .before .before .wide .ensures)
+    _ _ _ (judged .slots-judged .ensures) (c .if1 .taken)
 
 refusal-requires : tie.Need-refusal-requires
 refusal-requires c κs = search needs
 
 returns-2 : tie.Need-returns-2
-returns-2 c = gives-16 _ _ _ _ _ _ (c .before .before .before .before .before .before .before .before .before .slot-count .ensures) _ (c .before .before .before .before .before .before .before .before .wide .ensures) _ _ _ (c .before .before .before .before .before .before .slots-judged .ensures) (c .before .before .before .if1 .left) _ (c .refusal .ensures) (c .before .if2 .taken)
+returns-2 c =
+    let judged = c .before .before .before .before .before .before in
+    gives-16 _ _ _ _ _ _ (judged .before .before .before .slot-count .ensures) _ (judged .before .before .wide .ensures) _ _ _ (judged .slots-judged .ensures)
+    (c .before .before .before .if1 .left) _ (c .refusal .ensures) (c .before .if2 .taken)
 
 any-outside-requires : tie.Need-any-outside-requires
 any-outside-requires c κs = search needs
@@ -36,13 +43,23 @@ refusal-requires-2 : tie.Need-refusal-requires-2
 refusal-requires-2 c κs = search needs
 
 returns-3 : tie.Need-returns-3
-returns-3 c = gives-17 _ _ _ _ _ _ (c .before .before .before .before .before .before .before .before .before .before .before .before .slot-count .ensures) _ (c .before .before .before .before .before .before .before .before .before .before .before .wide .ensures) _ _ _ (c .before .before .before .before .before .before .before .before .before .slots-judged .ensures) (c .before .before .before .before .before .before .if1 .left) (c .before .before .before .before .if2 .left) _ (c .before .before .any-outside .ensures) _ (c .refusal2 .ensures) (c .before .if3 .taken)
+returns-3 c =
+    let judged = c .before .before .before .before .before .before .before .before .before in
+    let counted = judged .before .before .before in
+    gives-17 _ _ _ _ _ _ (counted .slot-count .ensures) _ (judged .before .before .wide .ensures) _ _ _ (judged .slots-judged .ensures)
+    (c .before .before .before .before .before .before .if1 .left) (counted .before .before .pre .1 .few) (c .before .before .before .before .if2 .left)
+    _ (c .before .before .any-outside .ensures) _ (c .refusal2 .ensures) (c .before .if3 .taken)
 
 passed-requires : tie.Need-passed-requires
 passed-requires c κs = search needs
 
 returns-4 : tie.Need-returns-4
-returns-4 c = gives-0 _ _ _ _ _ _ (c .before .before .before .before .before .before .before .before .before .before .before .before .slot-count .ensures) _ (c .before .before .before .before .before .before .before .before .before .before .before .wide .ensures) _ _ _ (c .before .before .before .before .before .before .before .before .before .slots-judged .ensures) (c .before .before .before .before .before .before .if1 .left) (c .before .before .before .before .if2 .left) _ (c .before .before .any-outside .ensures) _ (c .passed .ensures) (c .before .if3 .left)
+returns-4 c =
+    let judged = c .before .before .before .before .before .before .before .before .before in
+    let counted = judged .before .before .before in
+    gives-0 _ _ _ _ _ _ (counted .slot-count .ensures) _ (judged .before .before .wide .ensures) _ _ _ (judged .slots-judged .ensures)
+    (c .before .before .before .before .before .before .if1 .left) (counted .before .before .pre .1 .few) (c .before .before .before .before .if2 .left)
+    _ (c .before .before .any-outside .ensures) _ (c .passed .ensures) (c .before .if3 .left)
 
 pub plan-test-spec : {M : Type 1} → statement M
 plan-test-spec =

@@ -1,6 +1,6 @@
--- `judge::slots_judged` meets its contract: as far as slot k the definition has come to the same, the packets held together stay, and a refusal stays. Assumes nothing.
+-- `judge::slots_judged` meets its contract: as far as slot k the definition has come to the same, the packets held together stay, and a refusal stays.
 use mathlib.Core.Path.{sym, subst}
-use Prim.Native.Nat.{_-_}
+use Prim.Native.Nat.{ℕ, _-_}
 use lib.ListN.{getD}
 use Rattle.meaning.specs.declared.Outcome.{Outcome}
 use Rattle.meaning.specs.Conflict.{entry}
@@ -10,7 +10,8 @@ use Rattle.judge.proofs.slots_judged.Statement.{statement}
 use Rattle.judge.proofs.slots_judged.Tie as tie
 
 abbrev Inv-loop : tie.InvT-loop
-Inv-loop p parents table plan many held₀ outcome₀ at₀ k₀ held outcome at k = Going p (λ u. getD parents u 0) (entry table) plan many held₀ k outcome at held
+Inv-loop p parents table plan many held₀ outcome₀ at₀ k₀ held outcome at k =
+    Going p (λ u. getD parents u 0) (entry table) plan many held₀ k outcome at held
 
 abbrev μ-loop : tie.MeasureT-loop
 μ-loop p parents table plan many held₀ outcome₀ at₀ k₀ held outcome at k = many - k
@@ -20,9 +21,12 @@ passed-requires c κs = search needs
 
 loop-holds : tie.Need-loop-holds Inv-loop μ-loop
 loop-holds c =
-    let a = c .before .before .args in
-    subst (λ (o : Outcome). Going (a .p) (λ u. getD (a .parents .now) u 0) (entry (a .table .now)) (a .plan .now) (a .many) (a .held .now) 0 o 2 (a .held .now)) (sym (c .passed .ensures))
-    (going-starts (a .p) (λ u. getD (a .parents .now) u 0) (entry (a .table .now)) (a .plan .now) (a .many) (a .held .now) (c .before .before .pre .0) (c .before .before .pre .1))
+    let start = c .before .before in
+    let a = start .args in
+    let parent : ℕ → ℕ = λ u. getD (a .parents .now) u 0 in
+    subst (λ (o : Outcome). Going (a .p) parent (entry (a .table .now)) (a .plan .now) (a .many) (a .held .now) 0 o 2 (a .held .now))
+    (sym (c .passed .ensures))
+    (going-starts (a .p) parent (entry (a .table .now)) (a .plan .now) (a .many) (a .held .now) (start .pre .0) (start .pre .1))
 
 add-t12 : tie.Need-add-t12 Inv-loop μ-loop
 add-t12 c = search needs
@@ -31,7 +35,9 @@ slot-judged-requires : tie.Need-slot-judged-requires Inv-loop μ-loop
 slot-judged-requires c κs = (c .before .before .loop .inv .inside, c .before .before .loop .inv .ready)
 
 returns : tie.Need-returns Inv-loop μ-loop
-returns c = going-stops _ _ _ _ (c .before .before .before .before .before .before .loop .inv) (c .before .before .before .before .before .loop-test .taken) _ _ _ (c .before .before .before .slot-judged .ensures) (c .if1 .taken)
+returns c =
+    let test = c .before .before .before .before .before in
+    going-stops _ _ _ _ (test .before .loop .inv) (test .loop-test .taken) _ _ _ (c .before .before .before .slot-judged .ensures) (c .if1 .taken)
 
 add-k : tie.Need-add-k Inv-loop μ-loop
 add-k c = search needs
@@ -40,7 +46,9 @@ loop-less : tie.Need-loop-less Inv-loop μ-loop
 loop-less c = search needs
 
 loop-again : tie.Need-loop-again Inv-loop μ-loop
-loop-again c = going-on _ _ _ _ (c .before .before .before .before .before .before .loop .inv) (c .before .before .before .before .before .loop-test .taken) _ _ _ (c .before .before .before .slot-judged .ensures) (c .if1 .left)
+loop-again c =
+    let test = c .before .before .before .before .before in
+    going-on _ _ _ _ (test .before .loop .inv) (test .loop-test .taken) _ _ _ (c .before .before .before .slot-judged .ensures) (c .if1 .left)
 
 returns-2 : tie.Need-returns-2 Inv-loop μ-loop
 returns-2 c = going-ends _ _ _ _ (c .before .loop .inv) (c .loop-test .left)

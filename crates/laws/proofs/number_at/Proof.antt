@@ -1,4 +1,4 @@
--- `laws::number_at` meets its contract: past the end of a list `getD` is its default. Assumes nothing.
+-- `laws::number_at` meets its contract: past the end of a list `getD` is its default.
 use mathlib.Core.Path.{sym}
 use lib.ListN.{List·getD-eq-default}
 use borrow.Author.Needs.{needs}

@@ -1,5 +1,4 @@
 -- `limits::most_slots` meets its contract: a byte times two bytes fits four.
--- Assumes nothing.
 use Prim.Native.Nat.{_≤_}
 use native.Mathlib.Nat.{mul-le-mul}
 use native.Mathlib.Omega.{arith}

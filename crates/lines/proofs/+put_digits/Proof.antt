@@ -1,5 +1,4 @@
 -- The proof of the cycle of calls {put_digits}: each answer is a clause of `decimal`. The measure is how many digits may be said.
--- Assumes nothing.
 use mathlib.Core.Path.{ap}
 use lib.ListN.{length}
 use Rattle.lines.proofs.Decimal.{decimal-none, decimal-last, decimal-more, length-more}

@@ -1,5 +1,4 @@
 -- `lines::first_line` meets its contract: the parts of the line are put one behind the other, where the buffer has room for all of them.
--- Assumes nothing.
 use Rattle.meaning.specs.Lister.{text, numbersLine}
 use Rattle.lines.proofs.Putting.{put-more}
 use Rattle.lines.proofs.Lined.{line-short, line-put, numbers-short, numbers-room}

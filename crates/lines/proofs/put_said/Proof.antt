@@ -1,5 +1,4 @@
 -- `lines::put_said` meets its contract: the number is put behind the words.
--- Assumes nothing.
 use lib.ListN.{length-append}
 use Rattle.meaning.specs.Lister.{decimal}
 use Rattle.lines.proofs.Putting.{put-more, put-long}

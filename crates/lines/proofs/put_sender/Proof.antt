@@ -1,5 +1,4 @@
 -- `lines::put_sender` meets its contract: the words before the number are one space.
--- Assumes nothing.
 use Rattle.meaning.specs.Lister.{text}
 use Rattle.lines.proofs.Lined.{sender-length}
 use native.Mathlib.Omega.{arith}

@@ -1,5 +1,4 @@
 -- `lines::put_senders` meets its contract. The invariant: the first i senders are put. The measure is what is left of the senders.
--- Assumes nothing.
 use mathlib.Core.Path.{_≡_, refl, _∙_}
 use Prim.Native.Nat.{_-_, _≤_}
 use lib.ListN.{length, take}

@@ -1,5 +1,4 @@
 -- `lines::put_text` meets its contract. The invariant: the first i bytes are put. The measure is what is left of the bytes.
--- Assumes nothing.
 use mathlib.Core.Path.{_≡_, refl}
 use Prim.Native.Nat.{_+_, _-_, _≤_}
 use lib.ListN.{length, take, length-set}

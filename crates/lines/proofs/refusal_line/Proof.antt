@@ -1,5 +1,4 @@
 -- `lines::refusal_line` meets its contract: the parts of the line are put one behind the other, where the buffer has room for all of them.
--- Assumes nothing.
 use Rattle.meaning.specs.Lister.{text, refusalLine}
 use Rattle.lines.proofs.Putting.{put-more}
 use Rattle.lines.proofs.Lined.{line-short, line-put, refusal-short, refusal-room}

@@ -1,5 +1,4 @@
 -- `lines::slot_fits` meets its contract. The invariant: what is left of the room behind the first i senders. The measure is what is left of the senders.
--- Assumes nothing.
 use Prim.Native.Nat.{_-_, _≤_}
 use lib.ListN.{length}
 use Rattle.lines.proofs.Senders.{Fits, fits-never, fits-start, fits-short, fits-next, fits-all}

@@ -1,5 +1,4 @@
 -- `lines::slot_line` meets its contract: the parts of the line are put one behind the other, where the buffer has room for all of them.
--- Assumes nothing.
 use lib.ListN.{length}
 use Rattle.meaning.specs.Lister.{text, slotLine}
 use Rattle.lines.proofs.Putting.{put-more, put-long}

@@ -1,5 +1,4 @@
 -- `listing::first` meets its contract: the packets that are counted are those of the sheet.
--- Assumes nothing.
 use Rattle.listing.proofs.Heading.{headed}
 use borrow.Author.Needs.{needs}
 use Rattle.listing.proofs.first.Statement.{statement}
@@ -23,9 +22,9 @@ same-length c = search needs
 returns : tie.Need-returns
 returns c =
     let start = c .before .before .before .before .before .before .before .before .before .before .before .before in
-    let yard = c .before .before .before .before .before .before .before .before .before .read in
+    let tree = c .before .before .before .before .before .before .before .before .before .read in
     let line = c .before .before .first-line in
-    headed (start .args .sheet .now) (start .pre) (yard .result) (yard .ensures) (start .args .colours) (start .args .slots) _ _ (start .args .out .now) _ _
+    headed (start .args .sheet .now) (start .pre) (tree .result) (tree .ensures) (start .args .colours) (start .args .slots) _ _ (start .args .out .now) _ _
     (c .before .before .before .before .before .all-packets .ensures) (c .before .before .before .before .heaviest .ensures) (line .ensures .0) (line .ensures .1)
 
 pub first-spec : {M : Type 1} → statement M

@@ -1,5 +1,4 @@
 -- `listing::list` meets its contract: a short buffer stays as it is, a refusal has its line, and the lines of a plan's slots stand behind line one.
--- Assumes nothing.
 use mathlib.Core.Path.{_≡_}
 use mathlib.Core.List.{List}
 use Prim.Native.Nat.{ℕ}

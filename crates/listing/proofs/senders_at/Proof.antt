@@ -1,5 +1,4 @@
 -- `listing::senders_at` meets its contract: one law for each place that it returns from.
--- Assumes nothing.
 use Rattle.listing.proofs.Reading.{senders-past, senders-short, senders-whole}
 use native.Mathlib.Omega.{arith}
 use borrow.Author.Needs.{needs}

@@ -1,5 +1,5 @@
 -- `listing::slot_lines` meets its contract. The invariant: the lines of the first k slots stand at the start of the buffer, and those that are left
--- make the whole with them. The measure is the number of slots that are left. Assumes nothing.
+-- make the whole with them. The measure is the number of slots that are left.
 use Prim.Native.Nat.{_-_}
 use Rattle.listing.specs.Listed.{Listing}
 use Rattle.listing.proofs.Walking.{listing-start, listing-long, listing-within, listing-all, listing-end, listing-next}

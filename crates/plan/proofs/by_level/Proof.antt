@@ -1,25 +1,10 @@
 -- `plan::by_level` meets its contract: a refusal is what the tests say, and the plan made in the code's way is the plan by level.
--- Assumes nothing.
 use mathlib.Core.Path.{_∙_}
+use borrow.Author.Needs.{needs}
 use Rattle.meaning.specs.Rounds.{byLevel}
 use Rattle.plan.proofs.Answering.{refuses, two, ready, few, by-level, finishes}
-use native.Mathlib.Omega.{arith}
-use borrow.Author.Needs.{needs}
 use Rattle.plan.proofs.by_level.Statement.{statement}
 use Rattle.plan.proofs.by_level.Tie as tie
-use Rattle.plan.proofs.by_level.Reads as reads
-use Rattle.plan.proofs.by_level.Lts as lts
-use Rattle.colour.proofs.colouring.Reads as colouring-reads
-use Rattle.colour.proofs.used.Reads as used-reads
-use Rattle.conflict.proofs.level_table.Reads as level-table-reads
-use Rattle.conflict.proofs.table.Reads as table-reads
-use Rattle.meaning.proofs.refused_plan.Reads as refused-plan-reads
-use Rattle.plan.proofs.colours_by_level.Reads as colours-by-level-reads
-use Rattle.plan.proofs.finish.Reads as finish-reads
-use Rattle.plan.proofs.prepare.Reads as prepare-reads
-use Rattle.sheet.proofs.pair_count.Reads as pair-count-reads
-use Rattle.sheet.proofs.pair_records.Reads as pair-records-reads
-use Rattle.walk.proofs.depth.Reads as depth-reads
 
 prepare-requires : tie.Need-prepare-requires
 prepare-requires c κs = search needs
@@ -30,20 +15,12 @@ refused-plan-requires c κs = search needs
 returns : tie.Need-returns
 returns c =
     let start = c .before .before .before .before .before .before .before in
-    let s = start .args .sheet .now in
-    let buffer = start .args .buf .now in
-    let prepared = c .before .before .before .before .prepare in
-    let refused = refuses s buffer (prepared .result) (prepared .ensures) (byLevel s) (c .before .if1 .taken) in
+    let tree = c .before .before .before .before .prepare in
+    let refused = refuses (start .args .sheet .now) (start .args .buf .now) (tree .result) (tree .ensures) (byLevel _) (c .before .if1 .taken) in
     (c .refused-plan .ensures ∙ refused .0, refused .1)
 
-pair-records-requires : tie.Need-pair-records-requires
-pair-records-requires c κs = search needs
-
-pair-count-requires : tie.Need-pair-count-requires
-pair-count-requires c κs = search needs
-
-table-requires : tie.Need-table-requires
-table-requires c κs = search needs
+conflicts-requires : tie.Need-conflicts-requires
+conflicts-requires c κs = search needs
 
 depth-requires : tie.Need-depth-requires
 depth-requires c κs = search needs
@@ -62,30 +39,36 @@ used-requires c κs = search needs
 
 finish-requires : tie.Need-finish-requires
 finish-requires c κs =
-    let start = c .before .before .before .before .before .before .before .before .before .before .before .before .before .before .before .before .before .before in
+    let passed = c .before .before .before .before .before .before .before .before .before .before in
+    let start = passed .before .before .before .before .before .before in
     let s = start .args .sheet .now in
     let buffer = start .args .buf .now in
-    let prepared = c .before .before .before .before .before .before .before .before .before .before .before .before .before .before .before .prepare in
-    let passed = c .before .before .before .before .before .before .before .before .before .before .before .before .if1 .left in
-    (two s buffer (prepared .result) (prepared .ensures) passed, (ready s buffer (prepared .result) (prepared .ensures) passed, few s buffer (prepared .result) (prepared .ensures) passed))
+    let tree = passed .before .before .before .prepare in (
+      two s buffer (tree .result) (tree .ensures) (passed .if1 .left),
+      (ready s buffer (tree .result) (tree .ensures) (passed .if1 .left), few s buffer (tree .result) (tree .ensures) (passed .if1 .left)),
+    )
 
 same-length : tie.Need-same-length
 same-length c = search needs
 
 returns-2 : tie.Need-returns-2
 returns-2 c =
-    let start = c .before .before .before .before .before .before .before .before .before .before .before .before .before .before .before .before .before .before .before .before .before in
+    let passed = c .before .before .before .before .before .before .before .before .before .before .before .before .before in
+    let start = passed .before .before .before .before .before .before in
     let s = start .args .sheet .now in
     let buffer = start .args .buf .now in
-    let prepared = c .before .before .before .before .before .before .before .before .before .before .before .before .before .before .before .before .before .before .prepare in
-    let passed = c .before .before .before .before .before .before .before .before .before .before .before .before .before .before .before .if1 .left in
+    let tree = passed .before .before .before .prepare in
+    let table = c .before .before .before .before .before .before .before .before .before .before .conflicts in
+    let depth = c .before .before .before .before .before .before .before .before .depth in
+    let above = c .before .before .before .before .before .before .before .level-table in
+    let coloured = c .before .before .before .before .before .before .colouring in
+    let own = c .before .before .before .before .before .colours-by-level in
+    let used = c .before .before .before .before .used in
     let plan =
-    by-level s buffer (prepared .result) (prepared .ensures) passed (c .before .before .before .before .before .before .before .before .before .before .before .before .pair-records .result .now) (c .before .before .before .before .before .before .before .before .before .before .before .pair-count .result) (c .before .before .before .before .before .before .before .before .before .before .table .result) (c .before .before .before .before .before .before .before .before .before .before .before .before .pair-records .ensures)
-    (c .before .before .before .before .before .before .before .before .before .before .before .pair-count .ensures) (c .before .before .before .before .before .before .before .before .before .before .table .ensures) (c .before .before .before .before .before .before .before .before .depth .result) (c .before .before .before .before .before .before .before .level-table .result) (c .before .before .before .before .before .before .colouring .result)
-    (c .before .before .before .before .before .colours-by-level .result) (c .before .before .before .before .used .result) (c .before .before .before .before .before .before .before .before .depth .ensures) (c .before .before .before .before .before .before .before .level-table .ensures) (c .before .before .before .before .before .before .colouring .ensures)
-    (c .before .before .before .before .before .colours-by-level .ensures) (c .before .before .before .before .used .ensures)
+    by-level s buffer (tree .result) (tree .ensures) (passed .if1 .left) _ (table .ensures) (depth .result) _ (coloured .result) (own .result) (used .result)
+    (depth .ensures) (above .ensures) (coloured .ensures) (own .ensures) (used .ensures)
     in
-    finishes s buffer (prepared .result) (prepared .ensures) passed (byLevel s) _ (c .before .before .before .before .used .result) _ _ (plan .0) (plan .1) (c .before .before .finish .ensures)
+    finishes s buffer (tree .result) (tree .ensures) (passed .if1 .left) (byLevel s) _ _ _ _ (plan .0) (plan .1) (c .before .before .finish .ensures)
 
 pub by-level-spec : {M : Type 1} → statement M
 by-level-spec =
@@ -94,9 +77,7 @@ by-level-spec =
     prepare-requires
     refused-plan-requires
     returns
-    pair-records-requires
-    pair-count-requires
-    table-requires
+    conflicts-requires
     depth-requires
     level-table-requires
     colouring-requires

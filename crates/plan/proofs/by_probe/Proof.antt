@@ -1,22 +1,10 @@
 -- `plan::by_probe` meets its contract: a refusal is what the tests say, and the plan made in the code's way is the plan by probe.
--- Assumes nothing.
 use mathlib.Core.Path.{_∙_}
+use borrow.Author.Needs.{needs}
 use Rattle.meaning.specs.Rounds.{byProbe}
 use Rattle.plan.proofs.Answering.{refuses, two, ready, few, by-probe, finishes}
-use native.Mathlib.Omega.{arith}
-use borrow.Author.Needs.{needs}
 use Rattle.plan.proofs.by_probe.Statement.{statement}
 use Rattle.plan.proofs.by_probe.Tie as tie
-use Rattle.plan.proofs.by_probe.Reads as reads
-use Rattle.plan.proofs.by_probe.Lts as lts
-use Rattle.colour.proofs.colouring.Reads as colouring-reads
-use Rattle.colour.proofs.used.Reads as used-reads
-use Rattle.conflict.proofs.table.Reads as table-reads
-use Rattle.meaning.proofs.refused_plan.Reads as refused-plan-reads
-use Rattle.plan.proofs.finish.Reads as finish-reads
-use Rattle.plan.proofs.prepare.Reads as prepare-reads
-use Rattle.sheet.proofs.pair_count.Reads as pair-count-reads
-use Rattle.sheet.proofs.pair_records.Reads as pair-records-reads
 
 prepare-requires : tie.Need-prepare-requires
 prepare-requires c κs = search needs
@@ -27,20 +15,12 @@ refused-plan-requires c κs = search needs
 returns : tie.Need-returns
 returns c =
     let start = c .before .before .before .before .before .before .before in
-    let s = start .args .sheet .now in
-    let buffer = start .args .buf .now in
-    let prepared = c .before .before .before .before .prepare in
-    let refused = refuses s buffer (prepared .result) (prepared .ensures) (byProbe s) (c .before .if1 .taken) in
+    let tree = c .before .before .before .before .prepare in
+    let refused = refuses (start .args .sheet .now) (start .args .buf .now) (tree .result) (tree .ensures) (byProbe _) (c .before .if1 .taken) in
     (c .refused-plan .ensures ∙ refused .0, refused .1)
 
-pair-records-requires : tie.Need-pair-records-requires
-pair-records-requires c κs = search needs
-
-pair-count-requires : tie.Need-pair-count-requires
-pair-count-requires c κs = search needs
-
-table-requires : tie.Need-table-requires
-table-requires c κs = search needs
+conflicts-requires : tie.Need-conflicts-requires
+conflicts-requires c κs = search needs
 
 colouring-requires : tie.Need-colouring-requires
 colouring-requires c κs = search needs
@@ -50,28 +30,32 @@ used-requires c κs = search needs
 
 finish-requires : tie.Need-finish-requires
 finish-requires c κs =
-    let start = c .before .before .before .before .before .before .before .before .before .before .before .before .before in
+    let passed = c .before .before .before .before .before in
+    let start = passed .before .before .before .before .before .before in
     let s = start .args .sheet .now in
     let buffer = start .args .buf .now in
-    let prepared = c .before .before .before .before .before .before .before .before .before .before .prepare in
-    let passed = c .before .before .before .before .before .before .before .if1 .left in
-    (two s buffer (prepared .result) (prepared .ensures) passed, (ready s buffer (prepared .result) (prepared .ensures) passed, few s buffer (prepared .result) (prepared .ensures) passed))
+    let tree = passed .before .before .before .prepare in (
+      two s buffer (tree .result) (tree .ensures) (passed .if1 .left),
+      (ready s buffer (tree .result) (tree .ensures) (passed .if1 .left), few s buffer (tree .result) (tree .ensures) (passed .if1 .left)),
+    )
 
 same-length : tie.Need-same-length
 same-length c = search needs
 
 returns-2 : tie.Need-returns-2
 returns-2 c =
-    let start = c .before .before .before .before .before .before .before .before .before .before .before .before .before .before .before .before in
+    let passed = c .before .before .before .before .before .before .before .before in
+    let start = passed .before .before .before .before .before .before in
     let s = start .args .sheet .now in
     let buffer = start .args .buf .now in
-    let prepared = c .before .before .before .before .before .before .before .before .before .before .before .before .before .prepare in
-    let passed = c .before .before .before .before .before .before .before .before .before .before .if1 .left in
+    let tree = passed .before .before .before .prepare in
+    let table = c .before .before .before .before .before .before .conflicts in
+    let coloured = c .before .before .before .before .before .colouring in
+    let used = c .before .before .before .before .used in
     let plan =
-    by-probe s buffer (prepared .result) (prepared .ensures) passed (c .before .before .before .before .before .before .before .before .pair-records .result .now) (c .before .before .before .before .before .before .before .pair-count .result) (c .before .before .before .before .before .before .table .result) (c .before .before .before .before .before .before .before .before .pair-records .ensures)
-    (c .before .before .before .before .before .before .before .pair-count .ensures) (c .before .before .before .before .before .before .table .ensures) (c .before .before .before .before .before .colouring .result) (c .before .before .before .before .used .result) (c .before .before .before .before .before .colouring .ensures) (c .before .before .before .before .used .ensures)
+    by-probe s buffer (tree .result) (tree .ensures) (passed .if1 .left) _ (table .ensures) (coloured .result) (used .result) (coloured .ensures) (used .ensures)
     in
-    finishes s buffer (prepared .result) (prepared .ensures) passed (byProbe s) _ (c .before .before .before .before .used .result) _ _ (plan .0) (plan .1) (c .before .before .finish .ensures)
+    finishes s buffer (tree .result) (tree .ensures) (passed .if1 .left) (byProbe s) _ _ _ _ (plan .0) (plan .1) (c .before .before .finish .ensures)
 
 pub by-probe-spec : {M : Type 1} → statement M
 by-probe-spec =
@@ -80,9 +64,7 @@ by-probe-spec =
     prepare-requires
     refused-plan-requires
     returns
-    pair-records-requires
-    pair-count-requires
-    table-requires
+    conflicts-requires
     colouring-requires
     used-requires
     finish-requires

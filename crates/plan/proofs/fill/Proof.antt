@@ -1,5 +1,4 @@
 -- `plan::fill` meets its contract: `run` writes the slots behind two bytes, and there are no more of them than hops.
--- Assumes nothing.
 use mathlib.Core.Path.{_≡_, sym, ap, _∙_, subst₂}
 use mathlib.Core.List.{List}
 use Prim.Native.Nat.{ℕ, _-_}
@@ -16,7 +15,7 @@ use Rattle.plan.proofs.fill.Tie as tie
 use Rattle.plan.proofs.fill.Reads as reads
 use Rattle.plan.proofs.fill.Lts as lts
 use Rattle.plan.proofs.run.Reads as run-reads
-use Rattle.plan.proofs.wide.Reads as wide-reads
+use Rattle.slot.proofs.wide.Reads as wide-reads
 
 wide-requires : tie.Need-wide-requires
 wide-requires c κs = search needs

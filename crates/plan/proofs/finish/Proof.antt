@@ -1,5 +1,4 @@
 -- `plan::finish` meets its contract: what `fill` says, since there are never more slots than fit two bytes.
--- Assumes nothing.
 use Rattle.meaning.specs.Answer.{accepted}
 use native.Mathlib.Omega.{arith}
 use borrow.Author.Needs.{needs}

@@ -1,5 +1,4 @@
 -- `plan::room_test` meets its contract: at each return the tests that led there say what the order of tests comes to.
--- Assumes nothing.
 use mathlib.Core.Path.{sym}
 use borrow.Author.Tests.{ne-eqb}
 use Rattle.laws.proofs.Accepted.{then-stays}

@@ -1,9 +1,9 @@
 -- `plan::round` meets its contract: the first s colours have had their turn, and each slot stands behind the one before.
--- Assumes nothing.
 use mathlib.Core.Path.{_≡_, refl, sym, ap, _∙_, subst}
 use Prim.Native.Nat.{ℕ, _-_, _≤_}
-use lib.ListN.{length, getD, take, drop, length-drop}
+use lib.ListN.{length, take, drop, length-drop}
 use Rattle.meaning.specs.Rounds.{Progress}
+use Rattle.chosen.specs.TurnSlot.{byNode}
 use Rattle.plan.specs.Turn.{Ready}
 use Rattle.plan.specs.Going.{Going}
 use Rattle.plan.proofs.Going.{turns, turns-all, going-start, going-next, going-long, part-from}
@@ -18,7 +18,7 @@ use Rattle.plan.proofs.turn.Reads as turn-reads
 
 abbrev Inv-loop : tie.InvT-loop
 Inv-loop p parents table own m held₀ rest₀ at₀ slots₀ s₀ held rest at slots s =
-    (s ≤ m) × Going p (λ u. getD parents u 0) (turns p parents table own m s held₀) held rest₀ rest at slots
+    (s ≤ m) × Going p (byNode parents) (turns p parents table own m s held₀) held rest₀ rest at slots
 
 abbrev μ-loop : tie.MeasureT-loop
 μ-loop p parents table own m held₀ rest₀ at₀ slots₀ s₀ held rest at slots s = m - s
@@ -51,21 +51,24 @@ turn-requires c κs =
     let room : length (a .rest .now) - l .at ≡ length (take (length (l .rest) - l .at) (drop (l .at) (l .rest))) =
     ap (λ (n : ℕ). n - l .at) (sym (going-long (l .inv .1))) ∙ sym (length-drop (l .at) (l .rest)) ∙ ap length (sym (part-from (l .rest) (l .at)))
     in
-    subst (λ (r : ℕ). Ready (a .p) (λ u. getD (a .parents .now) u 0) (l .held) r) room (l .inv .1 .ready)
+    subst (λ (r : ℕ). Ready (a .p) (byNode (a .parents .now)) (l .held) r) room (l .inv .1 .ready)
 
 add-at : tie.Need-add-at Inv-loop μ-loop
 add-at c =
-    let l = c .before .before .before .before .before .before .loop in
-    omega (arith, going-next _ _ _ _ _ _ _ _ _ _ _ _ (l .inv .1) _ _ _ (c .before .before .turn .ensures) _ refl .within, c .before .before .before .before .before .before .before .before .good .1 .1 .1 .1 .1 .1 .0 .0)
+    let turn = c .before .before in
+    let loop = turn .before .before .before .before in
+    let next = going-next _ _ _ _ _ _ _ _ _ _ _ _ (loop .loop .inv .1) _ _ _ (turn .turn .ensures) _ refl in
+    omega (arith, next .within, loop .before .before .good .1 .1 .1 .1 .1 .1 .0 .0)
 
 slots-in-requires : tie.Need-slots-in-requires Inv-loop μ-loop
 slots-in-requires c κs = search needs
 
 add-slots : tie.Need-add-slots Inv-loop μ-loop
 add-slots c =
-    let l = c .before .before .before .before .before .before .before .loop in
-    let next = going-next _ _ _ _ _ _ _ _ _ _ _ _ (l .inv .1) _ _ _ (c .before .before .before .turn .ensures) _ (c .slots-in .ensures) in
-    omega (arith, next .within, next .fewer, c .before .before .before .before .before .before .before .before .before .good .1 .1 .1 .1 .1 .1 .0 .0)
+    let turn = c .before .before .before in
+    let loop = turn .before .before .before .before in
+    let next = going-next _ _ _ _ _ _ _ _ _ _ _ _ (loop .loop .inv .1) _ _ _ (turn .turn .ensures) _ (c .slots-in .ensures) in
+    omega (arith, next .within, next .fewer, loop .before .before .good .1 .1 .1 .1 .1 .1 .0 .0)
 
 add-s : tie.Need-add-s Inv-loop μ-loop
 add-s c = search needs
@@ -75,7 +78,9 @@ loop-less c = search needs
 
 loop-again : tie.Need-loop-again Inv-loop μ-loop
 loop-again c =
-    (search needs, going-next _ _ _ _ _ _ _ _ _ _ _ _ (c .before .before .before .before .before .before .before .loop .inv .1) _ _ _ (c .before .before .before .turn .ensures) _ (c .slots-in .ensures))
+    let turn = c .before .before .before in
+    let loop = turn .before .before .before .before in
+    (search needs, going-next _ _ _ _ _ _ _ _ _ _ _ _ (loop .loop .inv .1) _ _ _ (turn .turn .ensures) _ (c .slots-in .ensures))
 
 same-length : tie.Need-same-length Inv-loop μ-loop
 same-length c = going-long (c .before .loop .inv .1)
@@ -85,7 +90,7 @@ returns c =
     let a = c .before .before .before .args in
     let l = c .before .loop in
     let all : l .s ≡ a .m = omega (arith, l .inv .0) in
-    subst (λ (now : Progress). Going (a .p) (λ u. getD (a .parents .now) u 0) now (l .held) (a .rest .now) (l .rest) (l .at) (l .slots))
+    subst (λ (now : Progress). Going (a .p) (byNode (a .parents .now)) now (l .held) (a .rest .now) (l .rest) (l .at) (l .slots))
     (ap (λ (k : ℕ). turns (a .p) (a .parents .now) (a .table .now) (a .own .now) (a .m) k (a .held .now)) all
     ∙ turns-all (a .p) (a .parents .now) (a .table .now) (a .own .now) (a .m) (a .held .now))
     (l .inv .1)

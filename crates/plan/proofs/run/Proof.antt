@@ -1,12 +1,14 @@
 -- `plan::run` meets its contract: r rounds are made, and while a packet is outside another one follows.
--- Assumes nothing.
 use mathlib.Core.Path.{_≡_, sym, ap, _∙_, subst}
-use mathlib.Core.Bool.{false}
+use mathlib.Core.Bool.{Bool, false}
 use mathlib.Core.List.{List}
 use Prim.Native.Nat.{ℕ, _+_, _-_, _≤_}
 use borrow.Author.Tests.{not-true, not-false}
-use lib.ListN.{length, getD, take, drop, length-drop}
+use lib.ListN.{length, take, drop, length-drop}
 use Rattle.meaning.specs.Rounds.{Progress, outside, rounds}
+use Rattle.chosen.specs.TurnSlot.{byNode}
+use Rattle.slot.specs.Test.{atMost63}
+use Rattle.slot.proofs.Tests.{as-many}
 use Rattle.plan.specs.Turn.{Ready}
 use Rattle.plan.specs.Going.{wayBy, from, roundOf, Going}
 use Rattle.plan.proofs.Going.{rounds-start, rounds-stop, going-round, going-long, part-from, put-behind}
@@ -16,12 +18,16 @@ use Rattle.plan.proofs.run.Statement.{statement}
 use Rattle.plan.proofs.run.Tie as tie
 use Rattle.plan.proofs.run.Reads as reads
 use Rattle.plan.proofs.run.Lts as lts
-use Rattle.plan.proofs.any_outside.Reads as any-outside-reads
+use Rattle.slot.proofs.any_outside.Reads as any-outside-reads
 use Rattle.plan.proofs.round.Reads as round-reads
+
+-- at most 63 probes: `any_outside` looks at all of them
+within-yard : (p : ℕ) (held : List ℕ) (r : Bool) → p ≤ 63 → r ≡ outside (atMost63 p) held → r ≡ outside p held
+within-yard p held r small e = e ∙ ap (λ (n : ℕ). outside n held) (as-many p small)
 
 abbrev Inv-loop : tie.InvT-loop
 Inv-loop p parents table own m hops held₀ rest₀ at₀ slots₀ r₀ held rest at slots r =
-    (r ≤ hops) × Going p (λ u. getD parents u 0) (rounds (wayBy p parents table own m) r (from held₀)) held rest₀ rest at slots
+    (r ≤ hops) × Going p (byNode parents) (rounds (wayBy p parents table own m) r (from held₀)) held rest₀ rest at slots
 
 abbrev μ-loop : tie.MeasureT-loop
 μ-loop p parents table own m hops held₀ rest₀ at₀ slots₀ r₀ held rest at slots r = hops - r
@@ -32,7 +38,7 @@ loop-holds c =
     (search needs, rounds-start (a .p) (a .parents .now) (a .table .now) (a .own .now) (a .m) (a .held .now) (a .rest .now) (c .before .pre))
 
 any-outside-requires : tie.Need-any-outside-requires Inv-loop μ-loop
-any-outside-requires c κs = c .before .before .before .before .pre .small
+any-outside-requires c κs = search needs
 
 same-length : tie.Need-same-length Inv-loop μ-loop
 same-length c = going-long (c .before .before .before .before .loop .inv .1)
@@ -43,9 +49,9 @@ returns c =
     let l = c .before .before .before .before .loop in
     let home : outside (a .p) (rounds (wayBy (a .p) (a .parents .now) (a .table .now) (a .own .now) (a .m)) (l .r) (from (a .held .now)) .held) ≡ false =
     subst (λ (h : List ℕ). outside (a .p) h ≡ false) (l .inv .1 .holding)
-    (sym (c .before .any-outside .ensures) ∙ not-true (c .before .any-outside .result) (c .if1 .taken))
+    (sym (within-yard (a .p) (l .held) _ (c .before .before .before .before .before .before .pre .small) (c .before .any-outside .ensures)) ∙ not-true (c .before .any-outside .result) (c .if1 .taken))
     in
-    subst (λ (now : Progress). Going (a .p) (λ u. getD (a .parents .now) u 0) now (l .held) (a .rest .now) (l .rest) (l .at) (l .slots))
+    subst (λ (now : Progress). Going (a .p) (byNode (a .parents .now)) now (l .held) (a .rest .now) (l .rest) (l .at) (l .slots))
     (sym (rounds-stop (a .p) (a .parents .now) (a .table .now) (a .own .now) (a .m) (l .r) (a .hops) (a .held .now) (l .inv .0) home)) (l .inv .1)
 
 sub-round : tie.Need-sub-round Inv-loop μ-loop
@@ -68,7 +74,7 @@ round-requires c κs =
     let room : length (a .rest .now) - l .at ≡ length (take (length (l .rest) - l .at) (drop (l .at) (l .rest))) =
     ap (λ (n : ℕ). n - l .at) (sym (going-long (l .inv .1))) ∙ sym (length-drop (l .at) (l .rest)) ∙ ap length (sym (part-from (l .rest) (l .at)))
     in
-    subst (λ (r : ℕ). Ready (a .p) (λ u. getD (a .parents .now) u 0) (l .held) r) room (l .inv .1 .ready)
+    subst (λ (r : ℕ). Ready (a .p) (byNode (a .parents .now)) (l .held) r) room (l .inv .1 .ready)
 
 add-at : tie.Need-add-at Inv-loop μ-loop
 add-at c =
@@ -77,7 +83,7 @@ add-at c =
     let out = c .before .before .before .before .before .before .before .any-outside in
     let next =
     going-round (a .p) (a .parents .now) (a .table .now) (a .own .now) (a .m) (l .r) (a .held .now) (l .held) (a .rest .now) (l .rest) (l .at) (l .slots)
-    (l .inv .1) (sym (out .ensures) ∙ not-false (out .result) (c .before .before .before .before .before .before .if1 .left)) _ _ _ _ (c .before .before .before .round .ensures)
+    (l .inv .1) (sym (within-yard (a .p) (l .held) _ (c .before .before .before .before .before .before .before .before .before .before .before .before .pre .small) (out .ensures)) ∙ not-false (out .result) (c .before .before .before .before .before .before .if1 .left)) _ _ _ _ (c .before .before .before .round .ensures)
     in
     omega (arith, next .within, c .before .before .before .before .before .before .before .before .before .before .before .before .good .1 .1 .1 .1 .1 .1 .1 .0 .0)
 
@@ -88,7 +94,7 @@ add-slots c =
     let out = c .before .before .before .before .before .before .before .before .any-outside in
     let next =
     going-round (a .p) (a .parents .now) (a .table .now) (a .own .now) (a .m) (l .r) (a .held .now) (l .held) (a .rest .now) (l .rest) (l .at) (l .slots)
-    (l .inv .1) (sym (out .ensures) ∙ not-false (out .result) (c .before .before .before .before .before .before .before .if1 .left)) _ _ _ _ (c .before .before .before .before .round .ensures)
+    (l .inv .1) (sym (within-yard (a .p) (l .held) _ (c .before .before .before .before .before .before .before .before .before .before .before .before .before .pre .small) (out .ensures)) ∙ not-false (out .result) (c .before .before .before .before .before .before .before .if1 .left)) _ _ _ _ (c .before .before .before .before .round .ensures)
     in
     omega (arith, next .within, next .fewer, c .before .before .before .before .before .before .before .before .before .before .before .before .before .good .1 .1 .1 .1 .1 .1 .1 .0 .0)
 
@@ -105,7 +111,7 @@ loop-again c =
     let out = c .before .before .before .before .before .before .before .before .any-outside in
     let next =
     going-round (a .p) (a .parents .now) (a .table .now) (a .own .now) (a .m) (l .r) (a .held .now) (l .held) (a .rest .now) (l .rest) (l .at) (l .slots)
-    (l .inv .1) (sym (out .ensures) ∙ not-false (out .result) (c .before .before .before .before .before .before .before .if1 .left)) _ _ _ _ (c .before .before .before .before .round .ensures)
+    (l .inv .1) (sym (within-yard (a .p) (l .held) _ (c .before .before .before .before .before .before .before .before .before .before .before .before .before .pre .small) (out .ensures)) ∙ not-false (out .result) (c .before .before .before .before .before .before .before .if1 .left)) _ _ _ _ (c .before .before .before .before .round .ensures)
     in
     (search needs, next)
 
@@ -117,7 +123,8 @@ returns-2 c =
     let a = c .before .before .before .args in
     let l = c .before .loop in
     let all : l .r ≡ a .hops = omega (arith, l .inv .0) in
-    subst (λ (n : ℕ). Going (a .p) (λ u. getD (a .parents .now) u 0) (rounds (wayBy (a .p) (a .parents .now) (a .table .now) (a .own .now) (a .m)) n (from (a .held .now))) (l .held) (a .rest .now) (l .rest) (l .at) (l .slots))
+    let way = wayBy (a .p) (a .parents .now) (a .table .now) (a .own .now) (a .m) in
+    subst (λ (n : ℕ). Going (a .p) (byNode (a .parents .now)) (rounds way n (from (a .held .now))) (l .held) (a .rest .now) (l .rest) (l .at) (l .slots))
     all (l .inv .1)
 
 pub run-spec : {M : Type 1} → statement M

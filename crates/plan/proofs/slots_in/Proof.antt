@@ -1,5 +1,4 @@
 -- `plan::slots_in` meets its contract: each return has its test.
--- Assumes nothing.
 use mathlib.Core.Path.{sym, ap}
 use mathlib.Core.Bool.{Bool, cond}
 use borrow.Author.Tests.{eq-eqb, ne-eqb}

@@ -1,44 +1,28 @@
--- `plan::turn` meets its contract: the owners that `choose` found and those that join them send, and there is room because each has a hop to make.
--- Assumes nothing.
-use mathlib.Core.Path.{refl}
-use Prim.Native.Nat.{ℕ}
-use borrow.Author.Tests.{not-true, not-false}
-use lib.ListN.{getD}
-use Rattle.meaning.specs.Conflict.{entry}
-use Rattle.plan.proofs.Turning.{turned-none, turned-slot, may-write, slot-ends, may-move}
+-- `plan::turn` meets its contract: where `write_slot` took no byte nobody sends, and otherwise its senders stand behind the count and can send.
+use mathlib.Core.Path.{_∙_}
 use borrow.Author.Needs.{needs}
+use Rattle.chosen.specs.TurnSlot.{byNode}
+use Rattle.slot.proofs.Moving.{moved-within}
+use Rattle.plan.proofs.Turning.{slot-ends, turned-none, may-move, turned-slot}
 use Rattle.plan.proofs.turn.Statement.{statement}
 use Rattle.plan.proofs.turn.Tie as tie
 use Rattle.plan.proofs.turn.Reads as reads
 use Rattle.plan.proofs.turn.Lts as lts
-use Rattle.plan.proofs.choose.Reads as choose-reads
-use Rattle.plan.proofs.move_packets.Reads as move-packets-reads
-use Rattle.plan.proofs.write_slot.Reads as write-slot-reads
+use Rattle.chosen.proofs.write_slot.Reads as write-slot-reads
+use Rattle.slot.proofs.move_packets.Reads as move-packets-reads
 
-choose-requires : tie.Need-choose-requires
-choose-requires c κs = let ready = c .before .before .before .before .pre in (ready .small, (ready .long, (refl, refl)))
+write-slot-requires : tie.Need-write-slot-requires
+write-slot-requires c κs = search needs
+
+same-length : tie.Need-same-length
+same-length c = search needs
 
 returns : tie.Need-returns
 returns c =
-    let start = c .before .before .before .before .before .before in
+    let start = c .before .before .before .before .before .before .before in
     let a = start .args in
-    let choose = c .before .choose in
-    let parent : ℕ → ℕ = λ u. getD (a .parents .now) u 0 in
-    let own : ℕ → ℕ = λ v. getD (a .own .now) v 0 in
-    turned-none (a .p) parent (a .held .now) (a .rest .now) (start .pre) (entry (a .table .now)) own (a .s .0) _ _ (choose .result) (choose .ensures) (not-true (choose .result) (c .if1 .taken))
-
-write-slot-requires : tie.Need-write-slot-requires
-write-slot-requires c κs =
-    let start = c .before .before .before .before .before .before .before .before .before .before in
-    let a = start .args in
-    let choose = c .before .before .before .before .before .choose in
-    let parent : ℕ → ℕ = λ u. getD (a .parents .now) u 0 in
-    let own : ℕ → ℕ = λ v. getD (a .own .now) v 0 in
-    let asked =
-    may-write (a .p) parent (a .held .now) (a .rest .now) (start .pre) (entry (a .table .now)) own (a .s .0) _ _ (choose .result) (choose .ensures)
-    (not-false (choose .result) (c .before .before .before .before .if1 .left))
-    in
-    (start .pre .small, (asked .0, (asked .1, asked .2)))
+    turned-none (a .p) (byNode (a .parents .now)) (a .table .now) (a .own .now) (a .s .0) (a .held .now) (a .rest .now) (start .pre) _ _
+    (c .before .before .before .write-slot .ensures) (c .if1 .taken)
 
 sub-move-packets : tie.Need-sub-move-packets
 sub-move-packets c = search needs
@@ -48,52 +32,40 @@ part-move-packets-start c = search needs
 
 part-move-packets-end : tie.Need-part-move-packets-end
 part-move-packets-end c =
-    let start = c .before .before .before .before .before .before .before .before .before .before .before .before .before .before in
+    let left = c .before in
+    let start = left .before .before .before .before .before .before .before in
     let a = start .args in
-    let choose = c .before .before .before .before .before .before .before .before .before .choose in
-    let parent : ℕ → ℕ = λ u. getD (a .parents .now) u 0 in
-    let own : ℕ → ℕ = λ v. getD (a .own .now) v 0 in
-    slot-ends (a .p) parent (a .held .now) (a .rest .now) (start .pre) (entry (a .table .now)) own (a .s .0) _ _ (choose .result) (choose .ensures)
-    (not-false (choose .result) (c .before .before .before .before .before .before .before .before .if1 .left)) _ _ (c .before .before .before .write-slot .ensures)
+    slot-ends (a .p) (byNode (a .parents .now)) (a .table .now) (a .own .now) (a .s .0) (a .held .now) (a .rest .now) (start .pre) _ _
+    (left .before .before .before .write-slot .ensures)
 
 move-packets-requires : tie.Need-move-packets-requires
-move-packets-requires c κs =
-    let start = c .before .before .before .before .before .before .before .before .before .before .before .before .before .before .before .before in
-    let a = start .args in
-    let choose = c .before .before .before .before .before .before .before .before .before .before .before .choose in
-    let parent : ℕ → ℕ = λ u. getD (a .parents .now) u 0 in
-    let own : ℕ → ℕ = λ v. getD (a .own .now) v 0 in (
-      start .pre .long,
-      (
-        start .pre .few,
-        may-move (a .p) parent (a .held .now) (a .rest .now) (start .pre) (entry (a .table .now)) own (a .s .0) _ _ (choose .result) (choose .ensures)
-            (not-false (choose .result) (c .before .before .before .before .before .before .before .before .before .before .if1 .left)) _ _ (c .before .before .before .before .before .write-slot .ensures),
-      ),
-    )
+move-packets-requires c κs = search needs
 
-same-length : tie.Need-same-length
-same-length c = search needs
+same-length-2 : tie.Need-same-length-2
+same-length-2 c = search needs
 
 returns-2 : tie.Need-returns-2
 returns-2 c =
-    let start = c .before .before .before .before .before .before .before .before .before .before .before .before .before .before .before .before .before in
+    let left = c .before .before .before .before in
+    let start = left .before .before .before .before .before .before .before in
     let a = start .args in
-    let choose = c .before .before .before .before .before .before .before .before .before .before .before .before .choose in
-    let parent : ℕ → ℕ = λ u. getD (a .parents .now) u 0 in
-    let own : ℕ → ℕ = λ v. getD (a .own .now) v 0 in
-    turned-slot (a .p) parent (a .held .now) (a .rest .now) (start .pre) (entry (a .table .now)) own (a .s .0) _ _ (choose .result) (choose .ensures)
-    (not-false (choose .result) (c .before .before .before .before .before .before .before .before .before .before .before .if1 .left)) _ _ (c .before .before .before .before .before .before .write-slot .ensures) _ (c .move-packets .ensures)
+    let written = left .before .before .before .write-slot .ensures in
+    let sends =
+    may-move (a .p) (byNode (a .parents .now)) (a .table .now) (a .own .now) (a .s .0) (a .held .now) (a .rest .now) (start .pre) _ _ written (left .if1 .left)
+    in
+    turned-slot (a .p) (byNode (a .parents .now)) (a .table .now) (a .own .now) (a .s .0) (a .held .now) (a .rest .now) (start .pre) _ _ written (left .if1 .left) _
+    (c .move-packets .ensures ∙ moved-within _ _ _ (start .pre .long) (start .pre .few) (sends .0) (sends .1))
 
 pub turn-spec : {M : Type 1} → statement M
 turn-spec =
     tie.close
     (tie.spec
-    choose-requires
-    returns
     write-slot-requires
+    same-length
+    returns
     sub-move-packets
     part-move-packets-start
     part-move-packets-end
     move-packets-requires
-    same-length
+    same-length-2
     returns-2)

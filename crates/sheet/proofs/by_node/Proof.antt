@@ -1,11 +1,11 @@
--- `sheet::by_node` meets its contract: the table is filled from the front, as far as node v. Assumes nothing.
+-- `sheet::by_node` meets its contract: the table is filled from the front, as far as node v.
 use native.Mathlib.Omega.{arith}
 use mathlib.Core.Path.{_≡_, refl}
 use Prim.Native.Nat.{_≤_, _<_, _-_}
 use lib.ListN.{length, take, length-set}
 use Rattle.meaning.specs.Words.{tab}
 use Rattle.laws.proofs.Turns.{tab-next, tab-full}
-use Rattle.sheet.specs.Yard.{recordByte}
+use Rattle.sheet.specs.Tree.{recordByte}
 use borrow.Author.Needs.{needs}
 use Rattle.sheet.proofs.by_node.Statement.{statement}
 use Rattle.sheet.proofs.by_node.Tie as tie

@@ -1,5 +1,4 @@
 -- `sheet::counts_number` meets its contract: at each answer the law of that answer, from the counts that were read and the tests that led there.
--- Assumes nothing.
 use native.Mathlib.Omega.{arith}
 use mathlib.Core.Path.{_≡_, ap}
 use Prim.Native.Nat.{ℕ, _+_, _*_, _/_, _≤_}

@@ -1,4 +1,4 @@
--- `sheet::packets_wrong` meets its contract: each answer rewrites with the test that led to it. Assumes nothing.
+-- `sheet::packets_wrong` meets its contract: each answer rewrites with the test that led to it.
 use borrow.Author.Tests.{eq-eqb, ne-eqb}
 use Rattle.sheet.proofs.packets_wrong.Statement.{statement}
 use Rattle.sheet.proofs.packets_wrong.Tie as tie

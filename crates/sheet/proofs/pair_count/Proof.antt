@@ -1,4 +1,4 @@
--- `sheet::pair_count` meets its contract: two bytes below 256, read where q stands. Assumes nothing.
+-- `sheet::pair_count` meets its contract: two bytes below 256, read where q stands.
 use native.Mathlib.Omega.{arith}
 use Rattle.sheet.proofs.Parts.{pair-count-read}
 use borrow.Author.Needs.{needs}

@@ -1,4 +1,4 @@
--- `sheet::pair_records` meets its contract: the rest of the sheet behind q, which stands below 512. Assumes nothing.
+-- `sheet::pair_records` meets its contract: the rest of the sheet behind q, which stands below 512.
 use native.Mathlib.Omega.{arith}
 use mathlib.Core.Path.{ap, _∙_}
 use Prim.Native.Nat.{ℕ, _+_}

@@ -1,5 +1,4 @@
 -- `sheet::pair_test` meets its contract: at each answer the law of that answer, from the bytes that were read and the tests that led there.
--- Assumes nothing.
 use Rattle.sheet.proofs.Records.{pair-refused, first-passed, order-refused, pair-passed}
 use borrow.Author.Needs.{needs}
 use Rattle.sheet.proofs.pair_test.Statement.{statement}

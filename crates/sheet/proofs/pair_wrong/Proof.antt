@@ -1,4 +1,4 @@
--- `sheet::pair_wrong` meets its contract: each answer rewrites with the tests that led to it, the first two joined. Assumes nothing.
+-- `sheet::pair_wrong` meets its contract: each answer rewrites with the tests that led to it, the first two joined.
 use mathlib.Core.Path.{_≡_}
 use mathlib.Core.Bool.{_||_}
 use mathlib.Core.Logic.{⊎-elim}

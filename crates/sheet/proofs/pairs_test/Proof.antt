@@ -1,4 +1,4 @@
--- `sheet::pairs_test` meets its contract: the scan's invariant and its four laws. Assumes nothing.
+-- `sheet::pairs_test` meets its contract: the scan's invariant and its four laws.
 use Prim.Native.Nat.{_-_}
 use borrow.Author.Needs.{needs}
 use Rattle.meaning.specs.Answer.{pairTest}

@@ -1,5 +1,4 @@
 -- `sheet::probe_test` meets its contract: at each answer the law of that answer, from the bytes that were read and the tests that led there.
--- Assumes nothing.
 use Rattle.sheet.proofs.Records.{parent-refused, packets-refused, probe-passed}
 use borrow.Author.Needs.{needs}
 use Rattle.sheet.proofs.probe_test.Statement.{statement}

@@ -1,4 +1,4 @@
--- `sheet::record_byte` meets its contract: the laws of a node below the probes, above them, and of a probe. Assumes nothing.
+-- `sheet::record_byte` meets its contract: the laws of a node below the probes, above them, and of a probe.
 use Rattle.sheet.proofs.Parts.{node-below, node-above, node-probe}
 use borrow.Author.Needs.{needs}
 use Rattle.sheet.proofs.record_byte.Statement.{statement}

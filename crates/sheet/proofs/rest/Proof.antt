@@ -1,4 +1,4 @@
--- `sheet::rest` meets its contract: the two laws of the rest of a sheet. Assumes nothing.
+-- `sheet::rest` meets its contract: the two laws of the rest of a sheet.
 use Rattle.sheet.proofs.Parts.{rest-within, rest-past}
 use borrow.Author.Needs.{needs}
 use Rattle.sheet.proofs.rest.Statement.{statement}

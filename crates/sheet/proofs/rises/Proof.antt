@@ -1,4 +1,4 @@
--- `sheet::rises` meets its contract: each answer rewrites with the tests that led to it. Assumes nothing.
+-- `sheet::rises` meets its contract: each answer rewrites with the tests that led to it.
 use borrow.Author.Tests.{lt-ltb, le-ltb, eq-eqb, ne-eqb}
 use Rattle.sheet.proofs.rises.Statement.{statement}
 use Rattle.sheet.proofs.rises.Tie as tie

@@ -1,5 +1,4 @@
 -- The proof of the cycle of calls {climb}: each answer is a law of one hop. The measure is `left`.
--- Assumes nothing.
 use Prim.Native.Nat.{ℕ, _<_}
 use native.Mathlib.Omega.{arith}
 use borrow.Author.Needs.{needs}

@@ -1,5 +1,4 @@
 -- `walk::depth` meets its contract. The invariant: the deepest level so far is the most of the first k probes. The measure is what is left of p.
--- Assumes nothing.
 use mathlib.Core.Logic.{⊎-elim}
 use mathlib.Core.Path.{_≡_, refl, ap, _∙_}
 use Prim.Native.Nat.{ℕ, _+_, _-_, _≤_}

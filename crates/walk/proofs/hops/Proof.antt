@@ -1,5 +1,5 @@
 -- `walk::hops` meets its contract. The invariant: the hops so far are the sum over the first k probes, each at most 255 times 255. The measure is
--- what is left of p. Assumes nothing.
+-- what is left of p.
 use mathlib.Core.Path.{_≡_, refl, sym, ap₂, _∙_}
 use Prim.Native.Nat.{_+_, _-_, _*_, _≤_}
 use native.Mathlib.Omega.{arith}

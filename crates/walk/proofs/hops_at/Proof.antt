@@ -1,5 +1,4 @@
 -- `walk::hops_at` meets its contract: two bytes multiply to at most 65025.
--- Assumes nothing.
 use mathlib.Core.Path.{ap₂}
 use Prim.Native.Nat.{_*_}
 use native.Mathlib.Omega.{arith}

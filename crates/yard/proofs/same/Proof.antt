@@ -1,5 +1,4 @@
 -- `yard::same` reads no byte outside the two words: they are equally long, and the loop stays inside the first. The measure is what is left.
--- Assumes nothing.
 use mathlib.Core.Path.{_≡_}
 use Prim.Native.Nat.{_-_, _≤_}
 use lib.ListN.{length}

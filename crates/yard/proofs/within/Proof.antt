@@ -1,5 +1,4 @@
 -- `yard::within` meets its contract: what it answers is no more than the buffer's length, so that the part up to it is that long.
--- Assumes nothing.
 use mathlib.Core.Path.{sym}
 use lib.Seq.{length-take-le}
 use native.Mathlib.Omega.{arith}

@@ -1,0 +1,2 @@
+pub mod TurnSlot
+pub mod Kept

@@ -1,0 +1,60 @@
+-- What the tree of a sheet says: the definition opened, for a sheet that is accepted. Its conflict table is then the sheet's.
+use mathlib.Core.Path.{_≡_, refl, ap, ap₂, _∙_}
+use mathlib.Core.Bool.{Bool, true, false, cond}
+use mathlib.Core.List.{List}
+use Prim.Native.Nat.{ℕ}
+use lib.ListN.{getD}
+use Rattle.meaning.specs.Words.{tab, places}
+use Rattle.meaning.specs.Sheet.{probeCount, pairCount, pairRecords, parentOf, packetsOf, hops, interfere}
+use Rattle.meaning.specs.Conflict.{tableOf, conflict, conflictTable}
+use Rattle.meaning.specs.Colour.{levels}
+use Rattle.meaning.specs.Answer.{isAccepted, sheetTest}
+use Rattle.laws.proofs.Grounds.{parent-read}
+use Rattle.sheet.specs.declared.Tree.{Tree}
+use Rattle.sheet.specs.Tree.{refusedTree, acceptedTree, treeOf}
+
+-- a tree has the sheet's numbers, whatever its outcome
+pub record Standing (s : List ℕ) (tree : Tree) : Type 0 where
+  pub probes : tree .probes ≡ probeCount s
+  pub parents : tree .parents ≡ tab places (parentOf s)
+  pub packets : tree .packets ≡ tab places (packetsOf s)
+  pub levels : tree .levels ≡ levels s
+  pub hops : tree .hops ≡ hops s
+
+pub outcome-read : (s : List ℕ) (tree : Tree) → tree ≡ treeOf s → tree .outcome ≡ sheetTest s
+unfolding treeOf
+outcome-read s tree is = ap (λ (t : Tree). t .outcome) is ∙ go (isAccepted (sheetTest s))
+  where
+    go : (b : Bool) → cond b (acceptedTree s) (refusedTree (sheetTest s)) .outcome ≡ sheetTest s
+    go true = refl
+    go false = refl
+
+module _ (s : List ℕ) (ok : isAccepted (sheetTest s) ≡ true) where
+  whole : treeOf s ≡ acceptedTree s
+  unfolding treeOf
+  whole = ap (λ (b : Bool). cond b (acceptedTree s) (refusedTree (sheetTest s))) ok
+
+  pub standing : (tree : Tree) → tree ≡ treeOf s → Standing s tree
+  standing tree is =
+      let its = is ∙ whole in
+      record {
+        probes = ap (λ (t : Tree). t .probes) its;
+        parents = ap (λ (t : Tree). t .parents) its;
+        packets = ap (λ (t : Tree). t .packets) its;
+        levels = ap (λ (t : Tree). t .levels) its;
+        hops = ap (λ (t : Tree). t .hops) its;
+      }
+
+  module _ (tree : Tree) (its : Standing s tree) where
+    -- the parents, read at any number
+    pub parents-read : (λ (v : ℕ). getD (tree .parents) v 0) ≡ parentOf s
+    parents-read = ap {B = ℕ → ℕ} (λ (l : List ℕ). λ v. getD l v 0) (its .parents) ∙ parent-read s ok
+
+    -- "Conflicts": the conflict table that is made of a tree and the sheet's pairs is the sheet's
+    pub conflicts-read : (table : List (List Bool))
+        → table ≡ tableOf (conflict (tree .probes) (λ v. getD (tree .parents) v 0) (interfere (pairRecords s) (pairCount s)))
+        → table ≡ conflictTable s
+    unfolding conflictTable
+    conflicts-read table made =
+        made
+        ∙ ap₂ (λ (p : ℕ) (parent : ℕ → ℕ). tableOf (conflict p parent (interfere (pairRecords s) (pairCount s)))) (its .probes) parents-read
