@@ -15,7 +15,8 @@ use Rattle.meaning.specs.Conflict.{entry}
 use Rattle.meaning.specs.Rounds.{holds, joined, slotOf}
 use Rattle.laws.proofs.Lists.{length-front}
 use Rattle.laws.proofs.Joining.{owned-slot}
-use Rattle.chosen.specs.TurnSlot.{probesIn, byNode, turnSlot, slotBy, made, whole, slotLength, slotIn}
+use Rattle.laws.specs.Few.{atMost63}
+use Rattle.chosen.specs.TurnSlot.{byNode, turnSlot, slotBy, made, whole, slotLength, slotIn}
 use Rattle.chosen.specs.Kept.{flag, blockedBy, ownersBy, Chosen, sendersBy, Written}
 use Rattle.chosen.proofs.Owners.{owners-long}
 use Rattle.chosen.proofs.Writing.{probes-few, whole-fits}
@@ -29,10 +30,10 @@ made-one (v ∷ slot) h = append-nil _
 abbrev pub Wrote : List ℕ → List ℕ → List ℕ → ℕ → Type 0
 Wrote slot rest rest′ bytes = (bytes ≡ slotLength rest slot) × (rest′ ≡ slotIn rest slot)
 
-module _ (p : ℕ) {few : ℕ} (is : few ≡ probesIn p) {table : List (List Bool)} {own : List ℕ} {s : ℕ} {held : List ℕ} {chosen blocked : List Bool} {any : Bool}
+module _ (p : ℕ) {few : ℕ} (is : few ≡ atMost63 p) {table : List (List Bool)} {own : List ℕ} {s : ℕ} {held : List ℕ} {chosen blocked : List Bool} {any : Bool}
     (choice : Chosen few table own s held chosen blocked any) where
   abbrev slot : List ℕ
-  slot = slotBy (probesIn p) table own s held
+  slot = slotBy (atMost63 p) table own s held
 
   its-slot : slot ≡ slotOf few (entry table) (holds held) (ownersBy few table own s held)
   unfolding turnSlot

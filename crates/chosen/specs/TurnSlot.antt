@@ -1,16 +1,12 @@
 -- The slot of a colour, and what of it is written into the rest of a buffer.
 use mathlib.Core.Bool.{Bool, cond}
 use mathlib.Core.List.{List, [], _∷_}
-use Prim.Native.Nat.{ℕ, min}
+use Prim.Native.Nat.{ℕ}
 use lib.Dec.{ltb}
 use lib.ListN.{length, getD}
 use Rattle.meaning.specs.Plan.{slotBytes, front}
 use Rattle.meaning.specs.Conflict.{entry}
 use Rattle.meaning.specs.Rounds.{holds, slotOf, ownersByLevel}
-
--- a yard has at most 63 probes: a larger number counts as 63
-abbrev pub probesIn : ℕ → ℕ
-probesIn p = min p 63
 
 -- what a list by node has for each node
 abbrev pub byNode : List ℕ → ℕ → ℕ

@@ -7,7 +7,8 @@ ghost use Rattle.meaning.specs.Words.{some, tab, places};
 ghost use Rattle.meaning.specs.Plan.{front};
 ghost use Rattle.meaning.specs.Conflict.{entry};
 ghost use Rattle.meaning.specs.Rounds.{holds, ownersByProbe};
-ghost use Rattle.chosen.specs.TurnSlot.{probesIn, byNode, slotBy, whole, slotLength, slotIn};
+ghost use Rattle.laws.specs.Few.{atMost63};
+ghost use Rattle.chosen.specs.TurnSlot.{byNode, slotBy, whole, slotLength, slotIn};
 ghost use Rattle.chosen.specs.Kept.{flag, blockedBy, Considered, Joining, nobody, Chosen, sendersBy, Written};
 use meaning::Colour;
 use meaning::Probe;
@@ -196,13 +197,6 @@ fn put_whole(rest: &mut [u8], bytes: &[u8]) -> usize
     i
 }
 
-// How many probes there are to go through: a number above 63 counts as 63.
-fn probes_in(p: u8) -> u8
-    ensures { λ r. ⌜ r ≡ probesIn p ⌝ }
-{
-    if 63 < p { 63 } else { p }
-}
-
 // Writes the slot of colour s at the start of the rest; says how many bytes it took, 0 and nothing written where nobody sends or it does not fit.
 pub fn write_slot(
     rest: &mut [u8],
@@ -212,11 +206,11 @@ pub fn write_slot(
     s: Colour,
     held: &[u16; 65],
 ) -> usize
-    ensures answer { λ r. ⌜ r ≡ slotLength (now (rest .entry)) (slotBy (probesIn p) (now (table .entry)) (now (own .entry)) (s .0) (now (held .entry))) ⌝ }
+    ensures answer { λ r. ⌜ r ≡ slotLength (now (rest .entry)) (slotBy (atMost63 p) (now (table .entry)) (now (own .entry)) (s .0) (now (held .entry))) ⌝ }
     ensures rest { λ _. ⌜ now (rest .exit)
-        ≡ slotIn (now (rest .entry)) (slotBy (probesIn p) (now (table .entry)) (now (own .entry)) (s .0) (now (held .entry))) ⌝ }
+        ≡ slotIn (now (rest .entry)) (slotBy (atMost63 p) (now (table .entry)) (now (own .entry)) (s .0) (now (held .entry))) ⌝ }
 {
-    let few = probes_in(p);
+    let few = laws::at_most_63(p);
     let mut chosen = [false; 65];
     let mut blocked = [false; 65];
     if !choose(few, table, own, s, held, &mut chosen, &mut blocked) {

@@ -18,8 +18,8 @@ use Rattle.meaning.specs.Judge.{Judging, slotsJudged, planJudgedBy, planJudged,
 use Rattle.laws.proofs.Turns.{length-tab}
 use Rattle.laws.proofs.Accepted.{then-stays, then-goes}
 use Rattle.laws.proofs.Grounds.{few-probes, few-packets, parent-node}
-use Rattle.slot.specs.Test.{atMost63}
-use Rattle.slot.proofs.Tests.{as-many}
+use Rattle.laws.specs.Few.{atMost63}
+use Rattle.laws.proofs.Few.{as-many}
 use Rattle.sheet.specs.declared.Tree.{Tree}
 use Rattle.sheet.specs.Tree.{treeOf}
 use Rattle.sheet.proofs.Standing.{Standing, standing, outcome-read, parents-read, conflicts-read}

@@ -17,10 +17,10 @@ use Rattle.laws.proofs.Moving.{weigh, length-moved, kept}
 use Rattle.laws.proofs.Accepted.{then-goes, then-accepted, given-accepted}
 use Rattle.slot.specs.declared.SlotAt.{SlotAt}
 use Rattle.slot.specs.Place.{slotAt}
-use Rattle.slot.specs.Test.{atMost63}
+use Rattle.laws.specs.Few.{atMost63}
 use Rattle.slot.specs.Move.{movedWithin}
 use Rattle.slot.proofs.Places.{lent, next-read, slot-read}
-use Rattle.slot.proofs.Tests.{as-many}
+use Rattle.laws.proofs.Few.{as-many}
 use Rattle.slot.proofs.Senders.{rising, sender-at, sending}
 use Rattle.slot.proofs.Moving.{moved-within}
 use Rattle.judge.specs.Turn.{judgingFrom, Ready}

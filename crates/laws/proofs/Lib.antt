@@ -1,5 +1,6 @@
 -- Laws of the definitions: each file is one subject.
 pub mod Turns
+pub mod Few
 pub mod Lists
 pub mod Walk
 pub mod Moving

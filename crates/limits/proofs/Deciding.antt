@@ -11,8 +11,8 @@ use lib.ListN.{length, take}
 use lib.Seq.{take-all, getD-take, length-take-le}
 use Rattle.meaning.specs.declared.Outcome.{Outcome}
 use Rattle.meaning.specs.declared.Planned.{Planned}
-use Rattle.meaning.specs.Sheet.{twoAt, probeCount, pairCountAt, pairCount, sheetLength, hops}
-use Rattle.meaning.specs.Plan.{planBytes, roomFor}
+use Rattle.meaning.specs.Sheet.{decidingSheet, twoAt, probeCount, pairCountAt, pairCount, sheetLength, hops}
+use Rattle.meaning.specs.Plan.{anyPlan, planBytes, roomFor}
 use Rattle.meaning.specs.Rounds.{Way, byProbe, byLevel, slotsOf}
 use Rattle.meaning.specs.Answer.{isAccepted, given, _then_, countsTest, sheetTest, planTest, planAnswer, refusedPlan}
 use Rattle.meaning.specs.Judge.{planJudged, judge}
@@ -50,7 +50,7 @@ too-long-refused false false = refl
 few-pairs : (p q : ℕ) → p ≤ 63 → q ≤ p * (p + 1) / 2 → q ≤ 2016
 few-pairs p q h l = omega (arith, pairs-of-few p h, l)
 
-module _ (s : List ℕ) (long : 4162 ≤ length s) where
+module _ (s : List ℕ) (long : decidingSheet ≤ length s) where
   -- what the counts ask of so many bytes
   abbrev probes : Bool
   probes = ltb 63 (probeCount s)
@@ -95,20 +95,20 @@ module _ (s : List ℕ) (long : 4162 ≤ length s) where
       then-stays (countsTest s) _ (ap isAccepted refused ∙ too-long-refused probes pairs) ∙ refused
 
 -- the same counts stand in the bytes that are read
-module _ (s : List ℕ) (long : 4162 ≤ length s) where
+module _ (s : List ℕ) (long : decidingSheet ≤ length s) where
   abbrev start : List ℕ
-  start = take 4162 s
+  start = take decidingSheet s
 
-  enough : 4162 ≤ length start
-  enough = omega (arith, length-take-le 4162 s long)
+  enough : decidingSheet ≤ length start
+  enough = omega (arith, length-take-le decidingSheet s long)
 
   same-probes : probeCount start ≡ probeCount s
-  same-probes = getD-take 4162 s 0 0 (omega arith)
+  same-probes = getD-take decidingSheet s 0 0 (omega arith)
 
   same-pairs : probeCount s ≤ 63 → pairCount start ≡ pairCount s
   same-pairs few =
       ap (λ (p : ℕ). twoAt start (2 * p + 1)) same-probes
-      ∙ ap₂ (λ (x y : ℕ). 256 * x + y) (getD-take 4162 s (pairCountAt s) 0 (omega arith)) (getD-take 4162 s (pairCountAt s + 1) 0 (omega arith))
+      ∙ ap₂ (λ (x y : ℕ). 256 * x + y) (getD-take decidingSheet s (pairCountAt s) 0 (omega arith)) (getD-take decidingSheet s (pairCountAt s + 1) 0 (omega arith))
 
   same-refusal : (a : Bool) → probes s long ≡ a → tooLong (probes start enough) (pairs start enough) ≡ tooLong (probes s long) (pairs s long)
   same-refusal true e =
@@ -135,7 +135,7 @@ module _ (s : List ℕ) (refused : isAccepted (sheetTest s) ≡ false) where
   text-refused : sheetListed s ≡ refusalLine (sheetTest s)
   unfolding sheetListed
   text-refused =
-      ap (λ (p : Planned). cond (isAccepted (p .outcome)) (firstLine s p ++ slotLines 0 (slotsOf s (byProbe s))) (refusalLine (p .outcome))) (plan-refused (byProbe s) 60482)
+      ap (λ (p : Planned). cond (isAccepted (p .outcome)) (firstLine s p ++ slotLines 0 (slotsOf s (byProbe s))) (refusalLine (p .outcome))) (plan-refused (byProbe s) anyPlan)
       ∙ ap (λ (b : Bool). cond b (firstLine s (refusedPlan (sheetTest s)) ++ slotLines 0 (slotsOf s (byProbe s))) (refusalLine (sheetTest s))) refused
 
   pub verdict-refused : (plan : List ℕ) → judge s plan ≡ record { outcome = sheetTest s; slots = 0 }
@@ -147,24 +147,24 @@ module _ (s : List ℕ) (refused : isAccepted (sheetTest s) ≡ false) where
 
 -- what is answered of the first 4,162 bytes is answered of all
 decided : {A : Type 0} (answer : List ℕ → A) (of : Outcome → A) → ((s : List ℕ) → isAccepted (sheetTest s) ≡ false → answer s ≡ of (sheetTest s))
-    → (s : List ℕ) → answer (take 4162 s) ≡ answer s
-decided {A} answer of refused s = go (leb (length s) 4162) refl
+    → (s : List ℕ) → answer (take decidingSheet s) ≡ answer s
+decided {A} answer of refused s = go (leb (length s) decidingSheet) refl
   where
-    go : (b : Bool) → leb (length s) 4162 ≡ b → answer (take 4162 s) ≡ answer s
-    go true short = ap answer (take-all 4162 s (leb-true (length s) 4162 short))
+    go : (b : Bool) → leb (length s) decidingSheet ≡ b → answer (take decidingSheet s) ≡ answer s
+    go true short = ap answer (take-all decidingSheet s (leb-true (length s) decidingSheet short))
     go false longer =
-        let more = leb-false (length s) 4162 longer in
-        let long : 4162 ≤ length s = omega (arith, more) in
+        let more = leb-false (length s) decidingSheet longer in
+        let long : decidingSheet ≤ length s = omega (arith, more) in
         let no = is-refused s long in
-        refused (take 4162 s) (ap isAccepted (same-test s long) ∙ no) ∙ ap of (same-test s long) ∙ sym (refused s no)
+        refused (take decidingSheet s) (ap isAccepted (same-test s long) ∙ no) ∙ ap of (same-test s long) ∙ sym (refused s no)
 
-pub by-probe-decided : (s : List ℕ) (room : ℕ) → planAnswer (take 4162 s) (byProbe (take 4162 s)) room ≡ planAnswer s (byProbe s) room
+pub by-probe-decided : (s : List ℕ) (room : ℕ) → planAnswer (take decidingSheet s) (byProbe (take decidingSheet s)) room ≡ planAnswer s (byProbe s) room
 by-probe-decided s room = decided (λ t. planAnswer t (byProbe t) room) refusedPlan (λ t no. plan-refused t no (byProbe t) room) s
 
-pub by-level-decided : (s : List ℕ) (room : ℕ) → planAnswer (take 4162 s) (byLevel (take 4162 s)) room ≡ planAnswer s (byLevel s) room
+pub by-level-decided : (s : List ℕ) (room : ℕ) → planAnswer (take decidingSheet s) (byLevel (take decidingSheet s)) room ≡ planAnswer s (byLevel s) room
 by-level-decided s room = decided (λ t. planAnswer t (byLevel t) room) refusedPlan (λ t no. plan-refused t no (byLevel t) room) s
 
-pub verdict-decided : (s plan : List ℕ) → judge (take 4162 s) plan ≡ judge s plan
+pub verdict-decided : (s plan : List ℕ) → judge (take decidingSheet s) plan ≡ judge s plan
 verdict-decided s plan = decided (λ t. judge t plan) (λ o. record { outcome = o; slots = 0 }) (λ t no. verdict-refused t no plan) s
 
 pub text-decided : (s : List ℕ) → listing s ≡ sheetListed s

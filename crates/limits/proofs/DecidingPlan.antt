@@ -11,6 +11,7 @@ use lib.ListN.{length, getD, take, drop, length-drop}
 use lib.Seq.{take-all, take-take, getD-take, length-take-le}
 use Rattle.meaning.specs.declared.Outcome.{Outcome}
 use Rattle.meaning.specs.Words.{forEach, places}
+use Rattle.meaning.specs.Plan.{decidingPlan}
 use Rattle.meaning.specs.Sheet.{twoAt, probeCount, parentOf, levelOf, hops}
 use Rattle.meaning.specs.Conflict.{entry, conflictTable}
 use Rattle.meaning.specs.Rounds.{outside, moved}
@@ -108,7 +109,7 @@ module _ (s : List ℕ) (ok : isAccepted (sheetTest s) ≡ true) where
       go j now true so = near-judged plan j now so
       go j now false so = record { long = so .long; near = omega (arith, so .near) }
 
-  module _ (plan : List ℕ) (bytes : (k : ℕ) → getD plan k 0 < 256) (n : ℕ) (enough : 96032 ≤ n) (more : n < length plan) where
+  module _ (plan : List ℕ) (bytes : (k : ℕ) → getD plan k 0 < 256) (n : ℕ) (enough : decidingPlan ≤ n) (more : n < length plan) where
     abbrev first : List ℕ
     first = take n plan
 
@@ -183,10 +184,10 @@ module _ (s : List ℕ) (ok : isAccepted (sheetTest s) ≡ true) where
         same-judged)
         same-many
 
-pub plan-decided : (s plan : List ℕ) → ((k : ℕ) → getD plan k 0 < 256) → judge s (take 96032 plan) ≡ judge s plan
-plan-decided s plan bytes = go (isAccepted (sheetTest s)) (leb (length plan) 96032) refl refl
+pub plan-decided : (s plan : List ℕ) → ((k : ℕ) → getD plan k 0 < 256) → judge s (take decidingPlan plan) ≡ judge s plan
+plan-decided s plan bytes = go (isAccepted (sheetTest s)) (leb (length plan) decidingPlan) refl refl
   where
-    go : (a b : Bool) → isAccepted (sheetTest s) ≡ a → leb (length plan) 96032 ≡ b → judge s (take 96032 plan) ≡ judge s plan
-    go a true e short = ap (judge s) (take-all 96032 plan (leb-true (length plan) 96032 short))
-    go false false refused long = verdict-refused s refused (take 96032 plan) ∙ sym (verdict-refused s refused plan)
-    go true false ok long = same-verdict s ok plan bytes 96032 (omega arith) (leb-false (length plan) 96032 long)
+    go : (a b : Bool) → isAccepted (sheetTest s) ≡ a → leb (length plan) decidingPlan ≡ b → judge s (take decidingPlan plan) ≡ judge s plan
+    go a true e short = ap (judge s) (take-all decidingPlan plan (leb-true (length plan) decidingPlan short))
+    go false false refused long = verdict-refused s refused (take decidingPlan plan) ∙ sym (verdict-refused s refused plan)
+    go true false ok long = same-verdict s ok plan bytes decidingPlan (omega arith) (leb-false (length plan) decidingPlan long)

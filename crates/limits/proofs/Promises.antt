@@ -12,8 +12,8 @@ use Rattle.meaning.specs.declared.Outcome.{Outcome}
 use Rattle.meaning.specs.declared.Planned.{Planned}
 use Rattle.meaning.specs.Words.{some, someProbe, mostProbes}
 use Rattle.meaning.specs.Yard.{branchPackets}
-use Rattle.meaning.specs.Sheet.{probeCount, parentOf, packetsOf, heaviest, allPackets}
-use Rattle.meaning.specs.Plan.{planBytes, front}
+use Rattle.meaning.specs.Sheet.{decidingSheet, probeCount, parentOf, packetsOf, heaviest, allPackets}
+use Rattle.meaning.specs.Plan.{decidingPlan, planBytes, front}
 use Rattle.meaning.specs.Colour.{coloursUsed, probeColours, depth, levelColours}
 use Rattle.meaning.specs.Rounds.{Way, byProbe, byLevel, slotsOf}
 use Rattle.meaning.specs.Answer.{accepted, isAccepted, sheetTest, planTest, planAnswer, planBuffer, refusedPlan}
@@ -167,15 +167,15 @@ heaviest-branch = heaviest-at-top
 pub bytes-decide-text : (s : List ℕ) → listing s ≡ sheetListed s
 bytes-decide-text = text-decided
 
-pub bytes-decide-by-probe : (s : List ℕ) (room : ℕ) → planAnswer (take 4162 s) (byProbe (take 4162 s)) room ≡ planAnswer s (byProbe s) room
+pub bytes-decide-by-probe : (s : List ℕ) (room : ℕ) → planAnswer (take decidingSheet s) (byProbe (take decidingSheet s)) room ≡ planAnswer s (byProbe s) room
 bytes-decide-by-probe = by-probe-decided
 
-pub bytes-decide-by-level : (s : List ℕ) (room : ℕ) → planAnswer (take 4162 s) (byLevel (take 4162 s)) room ≡ planAnswer s (byLevel s) room
+pub bytes-decide-by-level : (s : List ℕ) (room : ℕ) → planAnswer (take decidingSheet s) (byLevel (take decidingSheet s)) room ≡ planAnswer s (byLevel s) room
 bytes-decide-by-level = by-level-decided
 
-pub bytes-decide-verdict : (s plan : List ℕ) → judge (take 4162 s) plan ≡ judge s plan
+pub bytes-decide-verdict : (s plan : List ℕ) → judge (take decidingSheet s) plan ≡ judge s plan
 bytes-decide-verdict = verdict-decided
 
 -- "Numbers returned": the first 96,032 bytes of a plan decide its verdict
-pub bytes-decide-plan : (s plan : List ℕ) → ((k : ℕ) → getD plan k 0 < 256) → judge s (take 96032 plan) ≡ judge s plan
+pub bytes-decide-plan : (s plan : List ℕ) → ((k : ℕ) → getD plan k 0 < 256) → judge s (take decidingPlan plan) ≡ judge s plan
 bytes-decide-plan = plan-decided

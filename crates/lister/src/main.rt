@@ -3,9 +3,9 @@ use libc::STDIN_FILENO;
 use libc::STDOUT_FILENO;
 
 fn main() {
-    let mut sheet = [0u8; 4162];
+    let mut sheet = [0u8; meaning::DECIDING_SHEET];
     let n = io::read_full(STDIN_FILENO, &mut sheet);
-    let mut text = [0u8; 302455];
+    let mut text = [0u8; meaning::ANY_TEXT];
     let m = listing::list(&sheet[..n], &mut text);
     io::write_all(STDOUT_FILENO, &text[..m]);
 }

@@ -12,17 +12,17 @@ use lib.ListN.{length, take, drop, length-append, length-drop}
 use lib.Seq.{length-take-le}
 use Rattle.meaning.specs.declared.Planned.{Planned}
 use Rattle.meaning.specs.Sheet.{hops, allPackets, heaviest}
-use Rattle.meaning.specs.Plan.{front, planBytes, roomFor}
+use Rattle.meaning.specs.Plan.{anyPlan, front, planBytes, roomFor}
 use Rattle.meaning.specs.Rounds.{byProbe, slotsOf}
 use Rattle.meaning.specs.Answer.{isAccepted, sheetTest, planTest, planAnswer, planBuffer, refusedPlan}
 use Rattle.meaning.specs.Legal.{heldFirst, Runs}
-use Rattle.meaning.specs.Lister.{firstLine, slotLines, refusalLine, sheetListed, numbersLine}
+use Rattle.meaning.specs.Lister.{anyText, firstLine, slotLines, refusalLine, sheetListed, numbersLine}
 use Rattle.laws.proofs.Accepted.{then-accepted, given-accepted}
 use Rattle.laws.proofs.Own.{by-probe-plan}
 use Rattle.lines.specs.Line.{lineLength, lineIn}
 use Rattle.laws.proofs.Lists.{length-front}
 use Rattle.plan.proofs.Going.{part-from}
-use Rattle.listing.specs.Listed.{listRoom, listedLength, listedIn, slotsFrom}
+use Rattle.listing.specs.Listed.{listedLength, listedIn, slotsFrom}
 use Rattle.listing.proofs.Reading.{slots-read, plan-same}
 use Rattle.listing.proofs.Walking.{line-whole, behind-front}
 use Rattle.listing.proofs.Measured.{first-most, refusal-most, slots-most}
@@ -37,15 +37,15 @@ text-part out out′ text r e is =
     (fits, sym (length-take-le r out′ fits))
 
 -- a buffer that is too short
-pub list-short : (s out : List ℕ) → length out < listRoom → Answers s out out 0
+pub list-short : (s out : List ℕ) → length out < anyText → Answers s out out 0
 list-short s out h =
-    let short = lt-leb listRoom (length out) h in
+    let short = lt-leb anyText (length out) h in
     ((omega arith, refl), (ap (λ (b : Bool). cond b (length (sheetListed s)) 0) (sym short), ap (λ (b : Bool). cond b (front out (sheetListed s)) out) (sym short)))
 
 -- a buffer with room, and the text in it
-list-whole : (s out out′ : List ℕ) (r : ℕ) → listRoom ≤ length out → r ≡ length (sheetListed s) → out′ ≡ front out (sheetListed s) → Answers s out out′ r
+list-whole : (s out out′ : List ℕ) (r : ℕ) → anyText ≤ length out → r ≡ length (sheetListed s) → out′ ≡ front out (sheetListed s) → Answers s out out′ r
 list-whole s out out′ r h answer buffer =
-    let room = le-leb listRoom (length out) h in (
+    let room = le-leb anyText (length out) h in (
       text-part out out′ (sheetListed s) r answer buffer,
       (
         answer ∙ ap (λ (b : Bool). cond b (length (sheetListed s)) 0) (sym room),
@@ -53,7 +53,7 @@ list-whole s out out′ r h answer buffer =
       ),
     )
 
-module _ (s : List ℕ) (buf : List ℕ) (long : length buf ≡ 60482) (planned : Planned) (is : planned ≡ planAnswer s (byProbe s) (length buf)) where
+module _ (s : List ℕ) (buf : List ℕ) (long : length buf ≡ anyPlan) (planned : Planned) (is : planned ≡ planAnswer s (byProbe s) (length buf)) where
   abbrev slots : List (List ℕ)
   slots = slotsOf s (byProbe s)
 
@@ -65,7 +65,7 @@ module _ (s : List ℕ) (buf : List ℕ) (long : length buf ≡ 60482) (planned 
   listed = ap textOf (sym (is ∙ ap (planAnswer s (byProbe s)) long))
 
   -- a refusal
-  module _ (refused : planned .outcome .number ≢ 0) (out : List ℕ) (room : listRoom ≤ length out) where
+  module _ (refused : planned .outcome .number ≢ 0) (out : List ℕ) (room : anyText ≤ length out) where
     its-line : sheetListed s ≡ refusalLine (planned .outcome)
     its-line =
         listed
@@ -126,7 +126,7 @@ module _ (s : List ℕ) (buf : List ℕ) (long : length buf ≡ 60482) (planned 
           counted
           ∙ slots-read slots buf
 
-      module _ (out : List ℕ) (room : listRoom ≤ length out) (head : ℕ) (out₁ : List ℕ) where
+      module _ (out : List ℕ) (room : anyText ≤ length out) (head : ℕ) (out₁ : List ℕ) where
         abbrev line : List ℕ
         line = numbersLine (planned .colours) (planned .slots) (allPackets s) (heaviest s)
 
@@ -155,7 +155,7 @@ module _ (s : List ℕ) (buf : List ℕ) (long : length buf ≡ 60482) (planned 
           pub lines-room : length lines ≤ length (take (length out₁ - head) (drop head out₁))
           lines-room = omega (arith, few, room, out-long, head-is, short, ap length (part-from out₁ head) ∙ length-drop head out₁)
 
-          pub lines-end : (more : ℕ) → more ≡ length lines → head + more ≤ listRoom
+          pub lines-end : (more : ℕ) → more ≡ length lines → head + more ≤ anyText
           lines-end more e = omega (arith, few, head-is, short)
 
           its-text : sheetListed s ≡ line ++ lines

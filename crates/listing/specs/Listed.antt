@@ -7,19 +7,15 @@ use lib.Dec.{leb}
 use lib.ListN.{length}
 use Rattle.meaning.specs.Plan.{front}
 use Rattle.meaning.specs.Judge.{nextAt, sendersAt}
-use Rattle.meaning.specs.Lister.{slotLines, sheetListed}
-
--- the buffer that the lister wants, whatever the text turns out to be: line one, and ten bytes for each of at most 30,240 hops
-abbrev pub listRoom : ℕ
-listRoom = 302455
+use Rattle.meaning.specs.Lister.{anyText, slotLines, sheetListed}
 
 -- how many bytes are written: the whole text, or none where the buffer is too short
 abbrev pub listedLength : List ℕ → List ℕ → ℕ
-listedLength s buffer = cond (leb listRoom (length buffer)) (length (sheetListed s)) 0
+listedLength s buffer = cond (leb anyText (length buffer)) (length (sheetListed s)) 0
 
 -- the buffer afterwards: the whole text at its start and the rest as before, or untouched where it is too short
 abbrev pub listedIn : List ℕ → List ℕ → List ℕ
-listedIn s buffer = cond (leb listRoom (length buffer)) (front buffer (sheetListed s)) buffer
+listedIn s buffer = cond (leb anyText (length buffer)) (front buffer (sheetListed s)) buffer
 
 -- "The plan in bytes": so many slots, read from a place of a plan on
 unfoldable pub slotsFrom : List ℕ → ℕ → ℕ → List (List ℕ)

@@ -67,10 +67,10 @@ pub fn list(sheet: &[u8], out: &mut [u8]) -> usize
     ensures answer { λ r. ⌜ r ≡ listedLength (now (sheet .entry)) (now (out .entry)) ⌝ }
     ensures buffer { λ _. ⌜ now (out .exit) ≡ listedIn (now (sheet .entry)) (now (out .entry)) ⌝ }
 {
-    if out.len() < 302455 {
+    if out.len() < meaning::ANY_TEXT {
         return 0;
     }
-    let mut buf = [0u8; 60482];
+    let mut buf = [0u8; meaning::ANY_PLAN];
     let planned = plan::by_probe(sheet, &mut buf);
     let outcome = planned.outcome;
     if outcome.number != 0 {

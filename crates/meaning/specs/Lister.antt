@@ -8,7 +8,8 @@ use lib.Dec.{ltb}
 use lib.ListN.{length, take}
 use Rattle.meaning.specs.declared.Outcome.{Outcome}
 use Rattle.meaning.specs.declared.Planned.{Planned}
-use Rattle.meaning.specs.Sheet.{allPackets, heaviest}
+use Rattle.meaning.specs.Sheet.{decidingSheet, allPackets, heaviest}
+use Rattle.meaning.specs.Plan.{anyPlan}
 use Rattle.meaning.specs.Rounds.{byProbe, slotsOf}
 use Rattle.meaning.specs.Answer.{isAccepted, planAnswer}
 
@@ -52,13 +53,17 @@ slotLines done (slot ∷ slots) = slotLine (suc done) slot ++ slotLines (suc don
 abbrev pub refusalLine : Outcome → List ℕ
 refusalLine outcome = said "refused" (outcome .number) ++ said "" (outcome .place) ++ text "\n"
 
+-- "The lister": room for any text: line one has at most 55 bytes, and ten bytes are enough for each of at most 30,240 hops
+abbrev pub anyText : ℕ
+anyText = 302455
+
 -- "The lister": the plan by probe of a sheet, in a buffer with room for any plan
 unfoldable pub sheetListed : List ℕ → List ℕ
 sheetListed s =
     let way = byProbe s in
-    let planned = planAnswer s way 60482 in
+    let planned = planAnswer s way anyPlan in
     cond (isAccepted (planned .outcome)) (firstLine s planned ++ slotLines 0 (slotsOf s way)) (refusalLine (planned .outcome))
 
 -- "The lister": at most 4,162 bytes are read, which decide every answer
 abbrev pub listing : List ℕ → List ℕ
-listing input = sheetListed (take 4162 input)
+listing input = sheetListed (take decidingSheet input)

@@ -20,6 +20,14 @@ planBytes slots = twoBytes (length slots) ++ slotBytes slots
 abbrev pub roomFor : ℕ → ℕ
 roomFor hops = 2 + 2 * hops
 
+-- "The plan in bytes": room for any plan of ours, 2 + 2 × 30,240
+abbrev pub anyPlan : ℕ
+anyPlan = 60482
+
+-- "Numbers returned": so many bytes of a plan, from anybody, decide its verdict
+abbrev pub decidingPlan : ℕ
+decidingPlan = 96032
+
 -- "The plan in bytes": a buffer after these bytes were written at its start; the bytes behind them stay
 abbrev pub front : List ℕ → List ℕ → List ℕ
 front buffer bytes = bytes ++ drop (length bytes) buffer

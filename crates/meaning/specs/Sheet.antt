@@ -42,6 +42,10 @@ pairRecords s = drop (pairCountAt s + 2) s
 abbrev pub sheetLength : List ℕ → ℕ
 sheetLength s = pairCountAt s + 2 + 2 * pairCount s
 
+-- "The lister": so many bytes of a sheet decide every answer, one more than the longest has
+abbrev pub decidingSheet : ℕ
+decidingSheet = 4162
+
 -- "Numbers of the yard": each probe has a parent and packets
 unfoldable pub parentOf : List ℕ → ℕ → ℕ
 parentOf s v = cond (isProbe (probeCount s) v) (firstOf (probeRecords s) (v - 2)) 0

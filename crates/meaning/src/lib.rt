@@ -2,6 +2,18 @@
 ghost use mathlib.Core.Path.{_≡_};
 ghost use Rattle.meaning.specs.Answer.{refusedPlan};
 
+// So many bytes of a sheet decide every answer.
+pub const DECIDING_SHEET: usize = 4162;
+
+// Room for any plan of ours.
+pub const ANY_PLAN: usize = 60482;
+
+// So many bytes of a plan, from anybody, decide its verdict.
+pub const DECIDING_PLAN: usize = 96032;
+
+// Room for any listing.
+pub const ANY_TEXT: usize = 302455;
+
 // A node's number: the gateway's, 1, or a probe's.
 pub struct Node(pub u8);
 

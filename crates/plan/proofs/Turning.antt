@@ -16,7 +16,8 @@ use Rattle.laws.proofs.Lists.{length-front}
 use Rattle.laws.proofs.Moving.{weigh, Each, Rising, Sender, weigh-moved, weigh-up, kept, length-moved}
 use Rattle.laws.proofs.Slots.{each-slot, each-so, rising-slot}
 use Rattle.laws.proofs.Running.{each-at}
-use Rattle.chosen.specs.TurnSlot.{probesIn, byNode, turnSlot, slotBy, made, whole}
+use Rattle.laws.specs.Few.{atMost63}
+use Rattle.chosen.specs.TurnSlot.{byNode, turnSlot, slotBy, made, whole}
 use Rattle.chosen.proofs.Owners.{only-owners}
 use Rattle.chosen.proofs.Writing.{whole-fits}
 use Rattle.chosen.proofs.SlotWritten.{made-one, Wrote}
@@ -91,7 +92,7 @@ module _ (p : ℕ) (parent : ℕ → ℕ) (held : List ℕ) (room : ℕ) (ready 
 
 -- the turn of colour s, once its slot is written
 module _ (p : ℕ) (parent : ℕ → ℕ) (table : List (List Bool)) (own : List ℕ) (s : ℕ) (held rest : List ℕ) (ready : Ready p parent held (length rest))
-    (rest′ : List ℕ) (bytes : ℕ) (w : Wrote (slotBy (probesIn p) table own s held) rest rest′ bytes) where
+    (rest′ : List ℕ) (bytes : ℕ) (w : Wrote (slotBy (atMost63 p) table own s held) rest rest′ bytes) where
   abbrev its : List ℕ
   its = slotBy p table own s held
 
@@ -99,9 +100,9 @@ module _ (p : ℕ) (parent : ℕ → ℕ) (table : List (List Bool)) (own : List
   room = turn-bytes p parent held (length rest) ready (entry table) (byNode own) s
 
   -- there is room for all of it
-  all-in : whole rest (slotBytes (made (slotBy (probesIn p) table own s held))) ≡ slotBytes (made its)
+  all-in : whole rest (slotBytes (made (slotBy (atMost63 p) table own s held))) ≡ slotBytes (made its)
   all-in =
-      let small : probesIn p ≡ p = omega (arith, ready .small) in
+      let small : atMost63 p ≡ p = omega (arith, ready .small) in
       ap (λ (n : ℕ). whole rest (slotBytes (made (slotBy n table own s held)))) small ∙ whole-fits rest (slotBytes (made its)) room
 
   counted : bytes ≡ length (slotBytes (made its))

@@ -13,11 +13,8 @@ use Rattle.meaning.specs.Answer.{accepted, _then_}
 use Rattle.meaning.specs.Judge.{slotTest}
 use Rattle.laws.proofs.Turns.{some-none}
 use Rattle.laws.proofs.Walk.{probe-most}
-use Rattle.slot.specs.Test.{atMost63, someNoProbe, someNotRising, someNoPacket, someConflict, Nodes}
-
--- a yard's own number of probes counts as it is
-pub as-many : (p : ℕ) → p ≤ 63 → atMost63 p ≡ p
-as-many p few = omega arith
+use Rattle.laws.specs.Few.{atMost63}
+use Rattle.slot.specs.Test.{someNoProbe, someNotRising, someNoPacket, someConflict, Nodes}
 
 module _ (p : ℕ) (relation : ℕ → ℕ → Bool) (held : List ℕ) (place : ℕ) (slot : List ℕ) where
   abbrev refused : ℕ → Outcome

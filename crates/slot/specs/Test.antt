@@ -1,16 +1,12 @@
--- The tests of one slot, each by itself, and the probes and senders that have a place in a list by node.
+-- The tests of one slot, each by itself, and the senders that have a place in a list by node.
 use mathlib.Core.Bool.{Bool, not, _&&_}
 use mathlib.Core.List.{List}
-use Prim.Native.Nat.{ℕ, _+_, _-_, _<_, min}
+use Prim.Native.Nat.{ℕ, _+_, _-_, _<_}
 use lib.Dec.{ltb, leb}
 use lib.ListN.{length, getD}
 use Rattle.meaning.specs.Words.{some, places}
 use Rattle.meaning.specs.Yard.{isProbe}
 use Rattle.meaning.specs.Rounds.{holds}
-
--- "Numbers of the yard": a yard has at most 63 probes; a larger number counts as 63
-abbrev pub atMost63 : ℕ → ℕ
-atMost63 p = min p 63
 
 -- 12: some sender is no probe
 abbrev pub someNoProbe : ℕ → List ℕ → Bool

@@ -7,8 +7,9 @@ ghost use Rattle.meaning.specs.Sheet.{twoAt};
 ghost use Rattle.meaning.specs.Conflict.{entry};
 ghost use Rattle.meaning.specs.Rounds.{outside};
 ghost use Rattle.meaning.specs.Judge.{slotTest};
+ghost use Rattle.laws.specs.Few.{atMost63};
 ghost use Rattle.slot.specs.Place.{slotAt};
-ghost use Rattle.slot.specs.Test.{atMost63, someNoProbe, someNotRising, someNoPacket, someConflict, Nodes};
+ghost use Rattle.slot.specs.Test.{someNoProbe, someNotRising, someNoPacket, someConflict, Nodes};
 ghost use Rattle.slot.specs.Move.{hopWithin, movedWithin};
 use meaning::Outcome;
 use meaning::Probe;
@@ -48,13 +49,6 @@ pub fn slot_count(plan: &[u8]) -> u16
     256 * (laws::number_at(plan, 0) as u16) + laws::number_at(plan, 1) as u16
 }
 
-// As many probes as a yard may have: then every probe has a place in a list by node.
-fn at_most_63(p: u8) -> u8
-    ensures { λ r. ⌜ r ≡ atMost63 p ⌝ }
-{
-    if p < 63 { p } else { 63 }
-}
-
 // Whether a sender is one of the probes 2 to p + 1.
 fn is_probe(p: u8, sender: u8) -> bool
     requires { ⌜ p ≤ 63 ⌝ }
@@ -67,7 +61,7 @@ fn is_probe(p: u8, sender: u8) -> bool
 fn no_probe(p: u8, slot: &[u8]) -> bool
     ensures { λ r. ⌜ r ≡ someNoProbe (atMost63 p) (now (slot .entry)) ⌝ }
 {
-    let probes = at_most_63(p);
+    let probes = laws::at_most_63(p);
     let mut i = 0;
     while i < slot.len() {
         if !is_probe(probes, slot[i]) {
@@ -198,7 +192,7 @@ pub fn move_packets(parents: &[u8; 65], slot: &[u8], held: &mut [u16; 65])
 pub fn any_outside(p: u8, held: &[u16; 65]) -> bool
     ensures { λ r. ⌜ r ≡ outside (atMost63 p) (now (held .entry)) ⌝ }
 {
-    let probes = at_most_63(p);
+    let probes = laws::at_most_63(p);
     let mut k: u8 = 0;
     while k < probes {
         let v = (k + 2) as usize;

@@ -205,7 +205,7 @@ fn list(sheet: &[u8]) {
         say_refused(outcome);
         return;
     }
-    let mut text = [0u8; 302455];
+    let mut text = [0u8; meaning::ANY_TEXT];
     let n = listing::list(sheet, &mut text);
     say(&text[..n]);
 }
@@ -228,13 +228,13 @@ fn write_plan(planned: Planned, plan: &[u8]) {
 }
 
 fn plan_by_probe(sheet: &[u8]) {
-    let mut plan = [0u8; 60482];
+    let mut plan = [0u8; meaning::ANY_PLAN];
     let planned = plan::by_probe(sheet, &mut plan);
     write_plan(planned, &plan);
 }
 
 fn plan_by_level(sheet: &[u8]) {
-    let mut plan = [0u8; 60482];
+    let mut plan = [0u8; meaning::ANY_PLAN];
     let planned = plan::by_level(sheet, &mut plan);
     write_plan(planned, &plan);
 }
@@ -252,7 +252,7 @@ fn say_verdict(verdict: Verdict) {
 
 // Judges the plan in the file of argument 3; its first 96,032 bytes decide every verdict.
 fn judge(sheet: &[u8]) {
-    let mut plan = [0u8; 96032];
+    let mut plan = [0u8; meaning::DECIDING_PLAN];
     let got = read_file(3, &mut plan);
     if got < 0 {
         return;
@@ -277,13 +277,13 @@ fn say_choice(sheet: &[u8], first: &[u8], second: &[u8]) {
 
 // Chooses between the plans in the files of arguments 3 and 4.
 fn choose(sheet: &[u8]) {
-    let mut first = [0u8; 96032];
+    let mut first = [0u8; meaning::DECIDING_PLAN];
     let got = read_file(3, &mut first);
     if got < 0 {
         return;
     }
     let n = io::count(got, &first);
-    let mut second = [0u8; 96032];
+    let mut second = [0u8; meaning::DECIDING_PLAN];
     let more = read_file(4, &mut second);
     if more < 0 {
         return;
@@ -312,7 +312,7 @@ fn main() {
         say_usage();
         return;
     }
-    let mut sheet = [0u8; 4162];
+    let mut sheet = [0u8; meaning::DECIDING_SHEET];
     let got = read_file(2, &mut sheet);
     if got < 0 {
         return;

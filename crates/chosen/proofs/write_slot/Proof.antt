@@ -9,23 +9,23 @@ use Rattle.chosen.proofs.write_slot.Tie as tie
 use Rattle.chosen.proofs.write_slot.Reads as reads
 use Rattle.chosen.proofs.write_slot.Lts as lts
 use Rattle.chosen.proofs.choose.Reads as choose-reads
-use Rattle.chosen.proofs.probes_in.Reads as probes-in-reads
+use Rattle.laws.proofs.at_most_63.Reads as at-most-63-reads
 use Rattle.chosen.proofs.put_whole.Reads as put-whole-reads
 use Rattle.chosen.proofs.write_senders.Reads as write-senders-reads
 
-probes-in-requires : tie.Need-probes-in-requires
-probes-in-requires c κs = search needs
+at-most-63-requires : tie.Need-at-most-63-requires
+at-most-63-requires c κs = search needs
 
 choose-requires : tie.Need-choose-requires
-choose-requires c κs = (omega (arith, c .before .before .probes-in .ensures), (refl, refl))
+choose-requires c κs = (omega (arith, c .before .before .at-most-63 .ensures), (refl, refl))
 
 returns : tie.Need-returns
-returns c = none-written _ (c .before .before .before .before .probes-in .ensures) (c .before .choose .ensures) (not-true _ (c .if1 .taken)) _
+returns c = none-written _ (c .before .before .before .before .at-most-63 .ensures) (c .before .choose .ensures) (not-true _ (c .if1 .taken)) _
 
 write-senders-requires : tie.Need-write-senders-requires
 write-senders-requires c κs =
     let owned = c .before .before .before .before in
-    let few = owned .before .before .before .before .probes-in .ensures in
+    let few = owned .before .before .before .before .at-most-63 .ensures in
     let asked = may-write _ few (owned .before .choose .ensures) (not-false _ (owned .if1 .left)) in
     (omega (arith, few), (asked .0, (asked .1, c .before .before .before .if2 .taken)))
 
@@ -35,7 +35,7 @@ same-length c = search needs
 returns-2 : tie.Need-returns-2
 returns-2 c =
     let owned = c .before .before .before .before .before .before .before in
-    all-written _ (owned .before .before .before .before .probes-in .ensures) (owned .before .choose .ensures) (not-false _ (owned .if1 .left)) _ _ _
+    all-written _ (owned .before .before .before .before .at-most-63 .ensures) (owned .before .choose .ensures) (not-false _ (owned .if1 .left)) _ _ _
     (c .before .before .before .before .before .before .if2 .taken) (c .before .before .write-senders .ensures)
 
 slice-aggregate-write-senders : tie.Need-slice-aggregate-write-senders
@@ -44,20 +44,20 @@ slice-aggregate-write-senders c = search needs
 write-senders-requires-2 : tie.Need-write-senders-requires-2
 write-senders-requires-2 c κs =
     let owned = c .before .before .before .before in
-    let few = owned .before .before .before .before .probes-in .ensures in
+    let few = owned .before .before .before .before .at-most-63 .ensures in
     let asked = may-write _ few (owned .before .choose .ensures) (not-false _ (owned .if1 .left)) in
     (omega (arith, few), (asked .0, (asked .1, omega arith)))
 
 array-share-prefix-slot : tie.Need-array-share-prefix-slot
 array-share-prefix-slot c =
     let owned = c .before .before .before .before .before .before .before in
-    short-ends _ (owned .before .before .before .before .probes-in .ensures) (owned .before .choose .ensures) (not-false _ (owned .if1 .left)) _ _ _
+    short-ends _ (owned .before .before .before .before .at-most-63 .ensures) (owned .before .choose .ensures) (not-false _ (owned .if1 .left)) _ _ _
     (omega arith) (c .before .before .write-senders2 .ensures)
 
 slice-aggregate-put-whole : tie.Need-slice-aggregate-put-whole
 slice-aggregate-put-whole c =
     let owned = c .before .before .before .before .before .before .before .before in
-    short-many _ (owned .before .before .before .before .probes-in .ensures) (owned .before .choose .ensures) (not-false _ (owned .if1 .left)) _ _ _
+    short-many _ (owned .before .before .before .before .at-most-63 .ensures) (owned .before .choose .ensures) (not-false _ (owned .if1 .left)) _ _ _
     (omega arith) (c .before .before .before .write-senders2 .ensures)
 
 put-whole-requires : tie.Need-put-whole-requires
@@ -70,7 +70,7 @@ returns-3 : tie.Need-returns-3
 returns-3 c =
     let owned = c .before .before .before .before .before .before .before .before .before .before .before in
     let put = c .before .before .put-whole .ensures in
-    short-written _ (owned .before .before .before .before .probes-in .ensures) (owned .before .choose .ensures) (not-false _ (owned .if1 .left)) _ _ _
+    short-written _ (owned .before .before .before .before .at-most-63 .ensures) (owned .before .choose .ensures) (not-false _ (owned .if1 .left)) _ _ _
     (omega arith) (c .before .before .before .before .before .before .write-senders2 .ensures)
     (owned .before .before .before .before .before .before .args .rest .now) _ _ (put .0) (put .1)
 
@@ -78,7 +78,7 @@ pub write-slot-spec : {M : Type 1} → statement M
 write-slot-spec =
     tie.close
     (tie.spec
-    probes-in-requires
+    at-most-63-requires
     choose-requires
     returns
     write-senders-requires

@@ -3,6 +3,7 @@ use mathlib.Core.Path.{_≡_}
 use mathlib.Core.List.{List}
 use Prim.Native.Nat.{ℕ}
 use lib.ListN.{length, replicate, length-replicate}
+use Rattle.meaning.specs.Plan.{anyPlan}
 use Rattle.listing.proofs.Answering.{list-short, list-refused, sheet-passed, head-within, lines-room, lines-end, list-planned}
 use native.Mathlib.Omega.{arith}
 use borrow.Author.Needs.{needs}
@@ -11,10 +12,10 @@ use Rattle.listing.proofs.list.Tie as tie
 
 -- the buffer for the plan, as it is made
 abbrev blank : List ℕ
-blank = replicate 60482 0
+blank = replicate anyPlan 0
 
-long : length blank ≡ 60482
-long = length-replicate {A = ℕ} 60482 0
+long : length blank ≡ anyPlan
+long = length-replicate {A = ℕ} anyPlan 0
 
 returns : tie.Need-returns
 returns c =

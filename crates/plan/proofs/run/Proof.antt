@@ -7,8 +7,8 @@ use borrow.Author.Tests.{not-true, not-false}
 use lib.ListN.{length, take, drop, length-drop}
 use Rattle.meaning.specs.Rounds.{Progress, outside, rounds}
 use Rattle.chosen.specs.TurnSlot.{byNode}
-use Rattle.slot.specs.Test.{atMost63}
-use Rattle.slot.proofs.Tests.{as-many}
+use Rattle.laws.specs.Few.{atMost63}
+use Rattle.laws.proofs.Few.{as-many}
 use Rattle.plan.specs.Turn.{Ready}
 use Rattle.plan.specs.Going.{wayBy, from, roundOf, Going}
 use Rattle.plan.proofs.Going.{rounds-start, rounds-stop, going-round, going-long, part-from, put-behind}

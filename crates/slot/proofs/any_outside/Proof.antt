@@ -4,7 +4,7 @@ use Prim.Native.Nat.{_+_, _-_}
 use borrow.Author.Tests.{lt-ltb, le-ltb}
 use lib.ListN.{getD}
 use Rattle.meaning.specs.Rounds.{holds}
-use Rattle.slot.specs.Test.{atMost63}
+use Rattle.laws.specs.Few.{atMost63}
 use Rattle.slot.proofs.Looking.{Looking, looking-starts, looking-on, looking-found, looking-ends}
 use native.Mathlib.Omega.{arith}
 use borrow.Author.Needs.{needs}

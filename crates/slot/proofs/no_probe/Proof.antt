@@ -4,7 +4,7 @@ use mathlib.Core.Bool.{not}
 use Prim.Native.Nat.{_-_}
 use lib.ListN.{length, getD}
 use Rattle.meaning.specs.Yard.{isProbe}
-use Rattle.slot.specs.Test.{atMost63}
+use Rattle.laws.specs.Few.{atMost63}
 use Rattle.slot.proofs.Looking.{Looking, looking-starts, looking-on, looking-found, looking-ends}
 use borrow.Author.Needs.{needs}
 use Rattle.slot.proofs.no_probe.Statement.{statement}

@@ -1,0 +1,2 @@
+-- What the functions here answer.
+pub mod Few
