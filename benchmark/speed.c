@@ -1,4 +1,4 @@
-// Plans and judgements a second of the proved library and of the second reading (tests/independent/second.c), on three yards: the longest sheet, sixty probes at random, a star.
+// Plans and judgements a second of the proved library and of the second reading (tests/independent/second.c), on four yards: the longest sheet, sixty probes at random, a star, and document 01's yard A.
 // Both answer the same calls turn by turn in one run, and first their answers are compared. Each buffer is cleared before a plan is made, outside the
 // time. speed [TURNS]
 #include "second.h"
@@ -13,6 +13,9 @@ static int turns = 21;
 
 static uint8_t sheet[YARD_SHEET_BYTES], buf[YARD_PLAN_BYTES], other[YARD_PLAN_BYTES];
 static size_t length;
+
+// Document 01, "Yards to try".
+static const uint8_t A[] = {0x03, 0x01, 0x01, 0x02, 0x01, 0x01, 0x01, 0x00, 0x00};
 
 static double now(void) {
   struct timespec t;
@@ -110,5 +113,6 @@ int main(int argc, char **argv) {
   yard(63, 0, 15, 1), all("longest");
   yard(60, 2, 0, 60), all("sixty");
   yard(63, 1, 15, 0), all("star");
+  memcpy(sheet, A, sizeof A), length = sizeof A, all("A");
   return 0;
 }

@@ -1,4 +1,4 @@
-// How a gateway uses the library: it plans the sheet in a file both ways, sends the shorter plan slot by slot, has it judged, and logs the listing. gateway SHEET
+// How a gateway uses the library: it asks how long a reading takes, plans the sheet in a file both ways, sends the shorter plan slot by slot, has it judged, and logs the listing. gateway SHEET
 #include "yard.h"
 #include <stdio.h>
 
@@ -28,6 +28,9 @@ int main(int argc, char **argv) {
   if (!file) return printf("usage: gateway SHEET\n"), 2;
   size_t length = fread(sheet, 1, YARD_SHEET_BYTES, file); // one byte more than the longest sheet has is enough to refuse it
   fclose(file);
+
+  yard_told told = yard_ask(sheet, length);
+  if (!told.number) printf("at least %d slots, ours %d, at most %d\n", told.least, told.ours, told.most);
 
   yard_planned probe = yard_by_probe(sheet, length, by_probe, YARD_PLAN_BYTES), level = yard_by_level(sheet, length, by_level, YARD_PLAN_BYTES);
   if (probe.number) return printf("no plan: refused %d at %d\n", probe.number, probe.place), 1;

@@ -1,4 +1,4 @@
-// The yard planner for gateways: planners, judge, chooser and lister over bytes in memory.
+// The yard planner for gateways: telephone, planners, judge, chooser and lister over bytes in memory.
 //
 // Every function takes any bytes: the caller tests nothing first, nothing is kept between calls, and nothing is allocated. Every answer is a plan, a
 // verdict or a numbered refusal; docs/NUMBERS.md has the numbers in plain words, docs/CONTRACTS.md says exactly what each function answers.
@@ -7,7 +7,7 @@
 // What the caller must provide, each time:
 // - a pointer that is valid for the length given with it, and not null even where the length is 0;
 // - a buffer to be written that overlaps none of the other arguments;
-// - YARD_STACK bytes of stack, and YARD_LIST_STACK for yard_list.
+// - YARD_STACK bytes of stack, and YARD_LIST_STACK for yard_list and yard_ask.
 #ifndef YARD_H
 #define YARD_H
 
@@ -19,7 +19,7 @@ enum {
   YARD_PLAN_BYTES = 60482,      // room for any plan of ours
   YARD_JUDGED_BYTES = 96032,    // how much of a plan, from anybody, decides its verdict
   YARD_TEXT_BYTES = 302455,     // room for any listing
-  YARD_LIST_STACK = 112 * 1024, // stack that a call of yard_list wants
+  YARD_LIST_STACK = 112 * 1024, // stack that a call of yard_list or yard_ask wants
   YARD_STACK = 48 * 1024        // stack that a call of any other function wants
 };
 
@@ -40,6 +40,19 @@ typedef struct {
   uint16_t place;
   uint16_t slots;
 } yard_verdict;
+
+// What the telephone answers. Answered: number and place are 0; no plan that the judge passes has fewer slots than `least`, our plan by probe has
+// `ours`, and never more than `most`. Refused: number is 1 to 8, place says where, and the other three are 0.
+typedef struct {
+  uint8_t number;
+  uint16_t place;
+  uint16_t least;
+  uint16_t ours;
+  uint16_t most;
+} yard_told;
+
+// How long one reading takes, before anything is sent. The caller provides a sheet and gets the answer; nothing is written.
+yard_told yard_ask(const uint8_t *sheet, size_t sheet_length);
 
 // Plans by probe. The caller provides a sheet and a buffer of 2 + 2 x hops bytes; YARD_PLAN_BYTES are enough for any sheet.
 // It gets the plan in the first `bytes` bytes of the buffer; the bytes behind it stay. A refusal (9: the buffer is too short) leaves the whole buffer as it was.

@@ -5,7 +5,7 @@
 #include <string.h>
 #include <ucontext.h>
 
-enum { BY_PROBE, BY_LEVEL, JUDGE, CHOOSE, LIST, FUNCTIONS, PAINT = 0xa5, LENT = 1 << 20, LAST_SLOT = 255, MOST_SLOTS = 65535 };
+enum { BY_PROBE, BY_LEVEL, JUDGE, CHOOSE, LIST, ASK, FUNCTIONS, PAINT = 0xa5, LENT = 1 << 20, LAST_SLOT = 255, MOST_SLOTS = 65535 };
 
 static uint8_t lent[LENT], sheet[YARD_SHEET_BYTES], plan[YARD_JUDGED_BYTES + 1], out[YARD_TEXT_BYTES];
 static size_t length, bytes, room, deepest[FUNCTIONS];
@@ -18,6 +18,7 @@ static void call(void) {
   if (function == JUDGE) yard_judge(sheet, length, plan, bytes);
   if (function == CHOOSE) yard_choose(sheet, length, plan, bytes, plan, bytes);
   if (function == LIST) yard_list(sheet, length, out, room);
+  if (function == ASK) yard_ask(sheet, length);
 }
 
 static void measure(int which) {
@@ -50,7 +51,7 @@ static void plans(size_t own, size_t slots) {
 // Every function on the sheet that stands there.
 static void sheet_done(void) {
   yard_planned own = yard_by_probe(sheet, length, plan, YARD_PLAN_BYTES);
-  for (room = 0; room <= YARD_TEXT_BYTES; room += YARD_TEXT_BYTES) measure(BY_PROBE), measure(BY_LEVEL), measure(LIST);
+  for (room = 0; room <= YARD_TEXT_BYTES; room += YARD_TEXT_BYTES) measure(BY_PROBE), measure(BY_LEVEL), measure(LIST), measure(ASK);
   if (own.number) judged(0);
   else plans(own.bytes, own.slots);
 }
@@ -90,8 +91,8 @@ int main(void) {
   sheets();
   size_t most = 0;
   for (int k = 0; k < LIST; k++) most = deepest[k] > most ? deepest[k] : most;
-  printf("stack used by probe %zu, by level %zu, to judge %zu, to choose %zu of %d bytes; to list %zu of %d\n",
-    deepest[BY_PROBE], deepest[BY_LEVEL], deepest[JUDGE], deepest[CHOOSE], YARD_STACK, deepest[LIST], YARD_LIST_STACK);
-  int all = fits("YARD_STACK", most, YARD_STACK), list = fits("YARD_LIST_STACK", deepest[LIST], YARD_LIST_STACK);
+  printf("stack used by probe %zu, by level %zu, to judge %zu, to choose %zu of %d bytes; to list %zu, to ask %zu of %d\n",
+    deepest[BY_PROBE], deepest[BY_LEVEL], deepest[JUDGE], deepest[CHOOSE], YARD_STACK, deepest[LIST], deepest[ASK], YARD_LIST_STACK);
+  int all = fits("YARD_STACK", most, YARD_STACK), list = fits("YARD_LIST_STACK", deepest[LIST] > deepest[ASK] ? deepest[LIST] : deepest[ASK], YARD_LIST_STACK);
   return all && list ? 0 : 1;
 }

@@ -10,7 +10,7 @@ enum { NODES = 65, MOST_SHEET = 5000, MOST_PLAN = 300000, FILL = 0xee, ENOUGH = 
 
 static unsigned char sheet[MOST_SHEET], got[YARD_TEXT_BYTES + 8], want[YARD_TEXT_BYTES + 8], plan[2][MOST_PLAN], own[YARD_PLAN_BYTES];
 static unsigned char sheet_lent[MOST_SHEET], plan_lent[2][MOST_PLAN];
-static long sheets, yards, plannings, plans, listings, numbers[18];
+static long sheets, yards, plannings, plans, listings, asked, numbers[18];
 
 // ---- chance
 
@@ -84,6 +84,16 @@ static void compare_plans(size_t len, size_t first, size_t second) {
   if (yard_choose(sheet, len, plan[0], first, plan[1], second) != second_choose(sheet, len, plan[0], first, plan[1], second))
     differ("chooser", len, 0, first, second);
   unchanged(len, first, second);
+}
+
+// The telephone's answer, of which the limits must hold.
+static void compare_told(size_t len) {
+  lend(len, 0, 0);
+  yard_told a = yard_ask(sheet, len), b = second_ask(sheet, len);
+  asked++;
+  unchanged(len, 0, 0);
+  if (a.number != b.number || a.place != b.place || a.least != b.least || a.ours != b.ours || a.most != b.most) differ("telephone", len, 0, 0, 0);
+  if (a.least > a.ours || a.ours > a.most) differ("telephone's limits", len, 0, 0, 0);
 }
 
 static void compare_listing(size_t len, size_t room) {
@@ -219,14 +229,14 @@ static void compare(long want_yards, long want_plans) {
         compare_plans(len, first, second);
       }
     }
-    compare_listing(len, rnd(16) ? YARD_TEXT_BYTES : YARD_TEXT_BYTES - 1);
+    compare_listing(len, rnd(16) ? YARD_TEXT_BYTES : YARD_TEXT_BYTES - 1), compare_told(len);
   }
 }
 
 // ---- the rows of "Yards to try" that are run and compared, by name
 
 static void named(const char *name, size_t len, size_t room) {
-  compare_planner(len, 1, room), compare_planner(len, 0, room), compare_listing(len, YARD_TEXT_BYTES);
+  compare_planner(len, 1, room), compare_planner(len, 0, room), compare_listing(len, YARD_TEXT_BYTES), compare_told(len);
   yard_planned r = yard_by_probe(sheet, len, got, room);
   printf("%s: %d at %d, %d colours, %d slots, %zu bytes\n", name, r.number, r.place, r.colours, r.slots, r.bytes);
 }
@@ -285,6 +295,8 @@ static void show_sheet(size_t len, size_t room) {
   memset(got, FILL, sizeof got);
   show_plan("library by probe", yard_by_probe(sheet, len, got, room), room), show_plan("second by probe", second_by_probe(sheet, len, got, room), room);
   show_plan("library by level", yard_by_level(sheet, len, got, room), room), show_plan("second by level", second_by_level(sheet, len, got, room), room);
+  yard_told a = yard_ask(sheet, len), b = second_ask(sheet, len);
+  printf("library tells: %d at %d, %d, %d, %d; second tells: %d at %d, %d, %d, %d\n", a.number, a.place, a.least, a.ours, a.most, b.number, b.place, b.least, b.ours, b.most);
   printf("library lists:\n"), fwrite(got, 1, yard_list(sheet, len, got, YARD_TEXT_BYTES), stdout);
   printf("second lists:\n"), fwrite(got, 1, second_list(sheet, len, (char *)got), stdout);
 }
@@ -309,7 +321,7 @@ int main(int argc, char **argv) {
   sizes();
   compare(atol(argv[2]), atol(argv[3]));
   if (yards >= 20000) enough();
-  printf("%ld yards and %ld refused sheets, %ld plannings, %ld listings and %ld judged plans agree; by number:", yards, sheets - yards, plannings, listings, plans);
+  printf("%ld yards and %ld refused sheets, %ld plannings, %ld listings, %ld telephone answers and %ld judged plans agree; by number:", yards, sheets - yards, plannings, listings, asked, plans);
   for (int k = 0; k < 18; k++) printf(" %d: %ld", k, numbers[k]);
   printf("\n");
   return 0;

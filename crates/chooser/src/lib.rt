@@ -35,7 +35,8 @@ pub fn choice(sheet: &[u8], first: &[u8], second: &[u8]) -> Choice
 
 // That plan itself; the empty part at the start of the first where none passes.
 pub fn choose<'a>(sheet: &[u8], first: &'a [u8], second: &'a [u8]) -> &'a [u8]
-    ensures bytes { λ r. ⌜ now r ≡ handedBack (choice (now (sheet .entry)) (now (first .entry)) (now (second .entry))) (now (first .entry)) (now (second .entry)) ⌝ }
+    ensures bytes { λ r. ⌜ now r
+        ≡ handedBack (choice (now (sheet .entry)) (now (first .entry)) (now (second .entry))) (now (first .entry)) (now (second .entry)) ⌝ }
     ensures itself { λ r. ⌜ Handed (choice (now (sheet .entry)) (now (first .entry)) (now (second .entry))) (first .entry) (second .entry) r ⌝ }
 {
     match choice(sheet, first, second) {

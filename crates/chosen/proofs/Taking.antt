@@ -10,8 +10,8 @@ use lib.ListN.{length, getD, set}
 use lib.Seq.{getD-set-same, getD-set-other}
 use Rattle.meaning.specs.Words.{forEach, some, tab, places}
 use Rattle.meaning.specs.Rounds.{clashes, joins, joined}
-use Rattle.chosen.specs.Kept.{blockedBy, anyTaken, Considered, Joining}
-use Rattle.laws.proofs.Turns.{below-or-last, forEach-one, some-one, some-same, tab-same, getD-tab}
+use Rattle.chosen.specs.Kept.{blockedBy, Considered, Joining}
+use Rattle.laws.proofs.Turns.{below-or-last, forEach-one, some-same, tab-same, getD-tab}
 
 -- one more is chosen: it blocks all that it conflicts with
 pub some-set : (n : ℕ) (relation : ℕ → ℕ → Bool) (chosen : List Bool) (v i : ℕ) → v < n → v < length chosen
@@ -51,20 +51,20 @@ module _ (relation : ℕ → ℕ → Bool) (may : ℕ → Bool) (v : ℕ) (chose
   known : getD blocked v false ≡ clashes relation chosen v
   known = ap (λ (l : List Bool). getD l v false) knows ∙ getD-tab places (clashes relation chosen) v false h
 
-  skipped : (may v && not (clashes relation chosen v)) ≡ false → Considered relation may v chosen chosen blocked false
-  skipped e = record { chose = sym (ap (λ (b : Bool). cond b (set chosen v true) chosen) e); knows = knows; took = sym e }
+  skipped : (may v && not (clashes relation chosen v)) ≡ false → Considered relation may v chosen chosen blocked
+  skipped e = record { chose = sym (ap (λ (b : Bool). cond b (set chosen v true) chosen) e); knows = knows }
 
   -- v may not
-  pub not-allowed : may v ≡ false → Considered relation may v chosen chosen blocked false
+  pub not-allowed : may v ≡ false → Considered relation may v chosen chosen blocked
   not-allowed e = skipped (ap (λ (b : Bool). b && not (clashes relation chosen v)) e)
 
   -- v is blocked
-  pub not-free : getD blocked v false ≡ true → Considered relation may v chosen chosen blocked false
+  pub not-free : getD blocked v false ≡ true → Considered relation may v chosen chosen blocked
   not-free e = skipped (ap (λ (b : Bool). may v && not b) (sym known ∙ e) ∙ and-false (may v))
 
   -- v is taken
   pub taken : may v ≡ true → getD blocked v false ≡ false → (row blocked′ : List Bool) → ((i : ℕ) → getD row i false ≡ relation v i)
-      → blocked′ ≡ tab places (λ i. getD blocked i false || getD row i false) → Considered relation may v chosen (set chosen v true) blocked′ true
+      → blocked′ ≡ tab places (λ i. getD blocked i false || getD row i false) → Considered relation may v chosen (set chosen v true) blocked′
   taken m e row blocked′ r q =
       let test : (may v && not (clashes relation chosen v)) ≡ true = ap₂ (λ (a b : Bool). a && not b) m (sym known ∙ e) in
       record {
@@ -75,27 +75,21 @@ module _ (relation : ℕ → ℕ → Bool) (may : ℕ → Bool) (v : ℕ) (chose
             (λ i hi.
             ap₂ _||_ (ap (λ (l : List Bool). getD l i false) knows ∙ getD-tab places (clashes relation chosen) i false hi) (r i)
             ∙ sym (some-set places relation chosen v i h (omega arith)));
-        took = sym test;
       }
 
 module _ (relation : ℕ → ℕ → Bool) (may : ℕ → Bool) (before : List Bool) where
-  pub joining-start : (blocked : List Bool) → blocked ≡ blockedBy relation before → Joining relation may before 0 before blocked false
-  unfolding forEach some joined anyTaken
-  joining-start blocked e = record { chose = refl; knows = e; took = refl }
+  pub joining-start : (blocked : List Bool) → blocked ≡ blockedBy relation before → Joining relation may before 0 before blocked
+  unfolding forEach joined
+  joining-start blocked e = record { chose = refl; knows = e }
 
   -- the turn of probe k + 2
-  pub joining-next : (k : ℕ) (chosen blocked : List Bool) (any : Bool) → Joining relation may before k chosen blocked any
-      → (chosen′ blocked′ : List Bool) (b : Bool)
-      → Considered relation may (k + 2) chosen chosen′ blocked′ b → Joining relation may before (k + 1) chosen′ blocked′ (any || b)
-  unfolding joined anyTaken
-  joining-next k chosen blocked any now chosen′ blocked′ b turn =
+  pub joining-next : (k : ℕ) (chosen blocked : List Bool) → Joining relation may before k chosen blocked → (chosen′ blocked′ : List Bool)
+      → Considered relation may (k + 2) chosen chosen′ blocked′ → Joining relation may before (k + 1) chosen′ blocked′
+  unfolding joined
+  joining-next k chosen blocked now chosen′ blocked′ turn =
       record {
         chose = turn .chose ∙ ap (joins relation may (k + 2)) (now .chose) ∙ sym (forEach-one k (λ j. joins relation may (j + 2)) before);
         knows = turn .knows;
-        took =
-            sym (some-one k (λ j. may (j + 2) && not (clashes relation (joined j relation may before) (j + 2)))
-            ∙ ap₂ _||_ (sym (now .took))
-            (ap (λ (l : List Bool). may (k + 2) && not (clashes relation l (k + 2))) (sym (now .chose)) ∙ sym (turn .took)));
       }
 
   -- the flag of a probe that has had its turn stays as it is

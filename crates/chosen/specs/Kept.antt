@@ -1,14 +1,13 @@
 -- What the code keeps between its steps to a slot, told in the meaning's words.
 use mathlib.Core.Path.{_≡_}
-use mathlib.Core.Bool.{Bool, true, false, not, _&&_}
+use mathlib.Core.Bool.{Bool, true, false}
 use mathlib.Core.List.{List, _∷_}
 use Prim.Native.Nat.{ℕ, _+_}
 use lib.ListN.{length, getD, replicate}
-use Rattle.meaning.specs.Words.{some, tab, places, someProbe}
+use Rattle.meaning.specs.Words.{tab, places, someProbe, byNode}
 use Rattle.meaning.specs.Plan.{front}
 use Rattle.meaning.specs.Conflict.{entry}
 use Rattle.meaning.specs.Rounds.{holds, clashes, joins, joined, senders, ownersByLevel}
-use Rattle.chosen.specs.TurnSlot.{byNode}
 
 -- the flag of v is up
 abbrev pub flag : List Bool → ℕ → Bool
@@ -18,22 +17,15 @@ flag flags v = getD flags v false
 abbrev pub blockedBy : (ℕ → ℕ → Bool) → List Bool → List Bool
 blockedBy relation chosen = tab places (clashes relation chosen)
 
--- some probe was taken when its turn to join came
-unfoldable pub anyTaken : ℕ → (ℕ → ℕ → Bool) → (ℕ → Bool) → List Bool → Bool
-anyTaken p relation may chosen =
-    some p (λ k. may (k + 2) && not (clashes relation (joined k relation may chosen) (k + 2)))
-
--- after the turn of probe v to be chosen: who is chosen, whom they block, and whether v was taken
-pub record Considered (relation : ℕ → ℕ → Bool) (may : ℕ → Bool) (v : ℕ) (before chosen blocked : List Bool) (taken : Bool) : Type 0 where
+-- after the turn of probe v to be chosen: who is chosen, and whom they block
+pub record Considered (relation : ℕ → ℕ → Bool) (may : ℕ → Bool) (v : ℕ) (before chosen blocked : List Bool) : Type 0 where
   pub chose : chosen ≡ joins relation may v before
   pub knows : blocked ≡ blockedBy relation chosen
-  pub took : taken ≡ (may v && not (clashes relation before v))
 
 -- after the turns of the first k probes
-pub record Joining (relation : ℕ → ℕ → Bool) (may : ℕ → Bool) (before : List Bool) (k : ℕ) (chosen blocked : List Bool) (any : Bool) : Type 0 where
+pub record Joining (relation : ℕ → ℕ → Bool) (may : ℕ → Bool) (before : List Bool) (k : ℕ) (chosen blocked : List Bool) : Type 0 where
   pub chose : chosen ≡ joined k relation may before
   pub knows : blocked ≡ blockedBy relation chosen
-  pub took : any ≡ anyTaken k relation may before
 
 -- nobody is chosen
 abbrev pub nobody : List Bool

@@ -3,12 +3,12 @@ ghost use mathlib.Core.Path.{_≡_};
 ghost use mathlib.Core.Bool.{not, _||_, _&&_};
 ghost use Prim.Native.Nat.{_≤_, _<_};
 ghost use lib.ListN.{length};
-ghost use Rattle.meaning.specs.Words.{some, tab, places};
+ghost use Rattle.meaning.specs.Words.{some, tab, places, byNode};
 ghost use Rattle.meaning.specs.Plan.{front};
 ghost use Rattle.meaning.specs.Conflict.{entry};
 ghost use Rattle.meaning.specs.Rounds.{holds, ownersByProbe};
 ghost use Rattle.laws.specs.Few.{atMost63};
-ghost use Rattle.chosen.specs.TurnSlot.{byNode, slotBy, whole, slotLength, slotIn};
+ghost use Rattle.chosen.specs.TurnSlot.{turnBy, whole, turnLength, turnIn};
 ghost use Rattle.chosen.specs.Kept.{flag, blockedBy, Considered, Joining, nobody, Chosen, sendersBy, Written};
 use meaning::Colour;
 use meaning::Probe;
@@ -52,53 +52,49 @@ fn any_of(flags: &[bool; 65]) -> bool
     any
 }
 
-// The turn of probe v to be chosen: it is, if it may and conflicts with none chosen so far; says whether it was.
+// The turn of probe v to be chosen: it is, if it may and conflicts with none chosen so far.
 fn consider(
     table: &[[bool; 65]; 65],
     may: &[bool; 65],
     v: Probe,
     chosen: &mut [bool; 65],
     blocked: &mut [bool; 65],
-) -> bool
+)
     requires node { ⌜ v .0 < 65 ⌝ }
     requires long { ⌜ length (now chosen) ≡ 65 ⌝ }
     requires known { ⌜ now blocked ≡ blockedBy (entry (now table)) (now chosen) ⌝ }
-    ensures { λ r. ⌜ Considered (entry (now (table .entry))) (flag (now (may .entry))) (v .0)
-        (now (chosen .entry)) (now (chosen .exit)) (now (blocked .exit)) r ⌝ }
+    ensures { λ _. ⌜ Considered (entry (now (table .entry))) (flag (now (may .entry))) (v .0)
+        (now (chosen .entry)) (now (chosen .exit)) (now (blocked .exit)) ⌝ }
 {
     let i = v.0 as usize;
     if !may[i] {
-        return false;
+        return;
     }
     if blocked[i] {
-        return false;
+        return;
     }
     chosen[i] = true;
     block(&table[i], blocked);
-    true
 }
 
-// Takes, in rising number, each probe that may and conflicts with none chosen so far; says whether any was taken.
+// Takes, in rising number, each probe that may and conflicts with none chosen so far.
 fn join(
     p: u8,
     table: &[[bool; 65]; 65],
     may: &[bool; 65],
     chosen: &mut [bool; 65],
     blocked: &mut [bool; 65],
-) -> bool
+)
     requires small { ⌜ p ≤ 63 ⌝ }
     requires long { ⌜ length (now chosen) ≡ 65 ⌝ }
     requires known { ⌜ now blocked ≡ blockedBy (entry (now table)) (now chosen) ⌝ }
-    ensures { λ r. ⌜ Joining (entry (now (table .entry))) (flag (now (may .entry))) (now (chosen .entry)) p (now (chosen .exit)) (now (blocked .exit)) r ⌝ }
+    ensures { λ _. ⌜ Joining (entry (now (table .entry))) (flag (now (may .entry))) (now (chosen .entry)) p (now (chosen .exit)) (now (blocked .exit)) ⌝ }
 {
-    let mut any = false;
     let mut k: u8 = 0;
     while k < p {
-        let taken = consider(table, may, Probe(k + 2), chosen, blocked);
-        any = any | taken;
+        consider(table, may, Probe(k + 2), chosen, blocked);
         k += 1;
     }
-    any
 }
 
 // Chooses the owners of the slot of colour s; says whether there is any.
@@ -120,7 +116,8 @@ fn choose(
     if !any_of(&mine) {
         return false;
     }
-    join(p, table, &mine, chosen, blocked)
+    join(p, table, &mine, chosen, blocked);
+    any_of(chosen)
 }
 
 // Who is to send if its turn comes now, by node: an owner, or one that holds a packet and conflicts with no owner.
@@ -197,6 +194,29 @@ fn put_whole(rest: &mut [u8], bytes: &[u8]) -> usize
     i
 }
 
+// The turn of colour s where any slot fits into the rest: writes it at its start; says how many bytes it took, 0 where nobody sends.
+fn write_with_room(
+    rest: &mut [u8],
+    p: u8,
+    table: &[[bool; 65]; 65],
+    own: &[u8; 65],
+    s: Colour,
+    held: &[u16; 65],
+) -> usize
+    requires { ⌜ 64 ≤ length (now rest) ⌝ }
+    ensures answer { λ r. ⌜ r ≡ turnLength (now (rest .entry)) (turnBy (atMost63 p) (now (table .entry)) (now (own .entry)) (s .0) (now (held .entry))) ⌝ }
+    ensures rest { λ _. ⌜ now (rest .exit)
+        ≡ turnIn (now (rest .entry)) (turnBy (atMost63 p) (now (table .entry)) (now (own .entry)) (s .0) (now (held .entry))) ⌝ }
+{
+    let few = laws::at_most_63(p);
+    let mut chosen = [false; 65];
+    let mut blocked = [false; 65];
+    if !choose(few, table, own, s, held, &mut chosen, &mut blocked) {
+        return 0;
+    }
+    write_senders(rest, few, table, held, &chosen, &blocked)
+}
+
 // Writes the slot of colour s at the start of the rest; says how many bytes it took, 0 and nothing written where nobody sends or it does not fit.
 pub fn write_slot(
     rest: &mut [u8],
@@ -206,21 +226,15 @@ pub fn write_slot(
     s: Colour,
     held: &[u16; 65],
 ) -> usize
-    ensures answer { λ r. ⌜ r ≡ slotLength (now (rest .entry)) (slotBy (atMost63 p) (now (table .entry)) (now (own .entry)) (s .0) (now (held .entry))) ⌝ }
+    ensures answer { λ r. ⌜ r ≡ turnLength (now (rest .entry)) (turnBy (atMost63 p) (now (table .entry)) (now (own .entry)) (s .0) (now (held .entry))) ⌝ }
     ensures rest { λ _. ⌜ now (rest .exit)
-        ≡ slotIn (now (rest .entry)) (slotBy (atMost63 p) (now (table .entry)) (now (own .entry)) (s .0) (now (held .entry))) ⌝ }
+        ≡ turnIn (now (rest .entry)) (turnBy (atMost63 p) (now (table .entry)) (now (own .entry)) (s .0) (now (held .entry))) ⌝ }
 {
-    let few = laws::at_most_63(p);
-    let mut chosen = [false; 65];
-    let mut blocked = [false; 65];
-    if !choose(few, table, own, s, held, &mut chosen, &mut blocked) {
-        return 0;
-    }
     // Any slot fits into 64 bytes: only near a buffer's end it is written elsewhere first.
-    if 64 <= rest.len() {
-        return write_senders(rest, few, table, held, &chosen, &blocked);
+    if rest.len() < 64 {
+        let mut slot = [0u8; 64];
+        let bytes = write_with_room(&mut slot, p, table, own, s, held);
+        return put_whole(rest, &slot[..bytes]);
     }
-    let mut slot = [0u8; 64];
-    let bytes = write_senders(&mut slot, few, table, held, &chosen, &blocked);
-    put_whole(rest, &slot[..bytes])
+    write_with_room(rest, p, table, own, s, held)
 }

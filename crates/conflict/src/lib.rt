@@ -3,7 +3,7 @@ ghost use mathlib.Core.Path.{_≡_};
 ghost use mathlib.Core.Bool.{false};
 ghost use Prim.Native.Nat.{_<_};
 ghost use lib.ListN.{length, getD};
-ghost use Rattle.meaning.specs.Words.{tab, places};
+ghost use Rattle.meaning.specs.Words.{tab, places, byNode};
 ghost use Rattle.meaning.specs.Sheet.{interfere};
 ghost use Rattle.meaning.specs.Conflict.{tableOf, entry, conflict};
 ghost use Rattle.meaning.specs.Colour.{levelsConflict};
@@ -78,10 +78,12 @@ fn heard(
     ensures { λ r. ⌜ r ≡ tab places (heardIn (now (probes .entry)) (now (parents .entry)) (now (pairs .entry)) x up over) ⌝ }
 {
     let mut out = [false; 65];
-    for y in 0..65 {
+    let mut y = 0;
+    while y < 65 {
         let v = probes[y];
         let linked = (parents[y] == up) | (over == v) | pairs[y];
         out[y] = (v != 0) & ((x != v) & ((up == v) | linked));
+        y += 1;
     }
     out
 }
@@ -118,8 +120,10 @@ fn heard_table(probes: &[u8; 65], parents: &[u8; 65], pairs: &[[bool; 65]; 256])
     ensures { λ r. ⌜ r ≡ tableOf (heardRow (now (probes .entry)) (now (parents .entry)) (now (pairs .entry))) ⌝ }
 {
     let mut t = [[false; 65]; 65];
-    for x in 0..65 {
+    let mut x = 0;
+    while x < 65 {
         t[x] = heard_at(probes, parents, pairs, x);
+        x += 1;
     }
     t
 }
@@ -133,22 +137,26 @@ fn either(probes: &[u8; 65], heard: &[[bool; 65]; 65], x: usize) -> [bool; 65]
     if probes[x] == 0 {
         return out;
     }
-    for y in 0..65 {
+    let mut y = 0;
+    while y < 65 {
         out[y] = heard[x][y] | heard[y][x];
+        y += 1;
     }
     out
 }
 
 // The conflict table of the probes 2 to p + 1, by their parents and the first q records of pairs.
 pub fn table(p: u8, parents: [u8; 65], records: &[u8], q: u16) -> [[bool; 65]; 65]
-    ensures { λ r. ⌜ r ≡ tableOf (conflict p (λ v. getD parents v 0) (interfere (now (records .entry)) q)) ⌝ }
+    ensures { λ r. ⌜ r ≡ tableOf (conflict p (byNode parents) (interfere (now (records .entry)) q)) ⌝ }
 {
     let probes = probes(p);
     let pairs = pair_table(records, q);
     let heard = heard_table(&probes, &parents, &pairs);
     let mut t = [[false; 65]; 65];
-    for x in 0..65 {
+    let mut x = 0;
+    while x < 65 {
         t[x] = either(&probes, &heard, x);
+        x += 1;
     }
     t
 }
@@ -168,7 +176,7 @@ fn mark(t: &mut [[bool; 65]; 65], a: Level, b: Level)
 
 // The levels of the probes in the row of a probe are marked against its own level, a.
 fn mark_levels(t: &mut [[bool; 65]; 65], p: u8, levels: [u8; 65], row: [bool; 65], a: Level)
-    ensures { λ _. ⌜ now (t .exit) ≡ levelsMarked p (λ v. getD levels v 0) (λ y. getD row y false) (a .0) (now (t .entry)) ⌝ }
+    ensures { λ _. ⌜ now (t .exit) ≡ levelsMarked p (byNode levels) (λ y. getD row y false) (a .0) (now (t .entry)) ⌝ }
 {
     let n = p as usize;
     let mut k: usize = 0;
@@ -188,7 +196,7 @@ fn mark_levels(t: &mut [[bool; 65]; 65], p: u8, levels: [u8; 65], row: [bool; 65
 
 // The conflict table of the levels, by the level of each probe and the conflict table of the probes 2 to p + 1.
 pub fn level_table(p: u8, levels: [u8; 65], table: [[bool; 65]; 65]) -> [[bool; 65]; 65]
-    ensures { λ r. ⌜ r ≡ tableOf (levelsConflict p (λ v. getD levels v 0) (entry table)) ⌝ }
+    ensures { λ r. ⌜ r ≡ tableOf (levelsConflict p (byNode levels) (entry table)) ⌝ }
 {
     let mut t = [[false; 65]; 65];
     let n = p as usize;

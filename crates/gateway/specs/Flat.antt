@@ -1,12 +1,13 @@
 -- The answers of document 01 as C sees them.
 use Prim.Native.Nat.{ℕ}
-use Rattle.meaning.specs.declared.Outcome.{Outcome}
 use Rattle.meaning.specs.declared.Planned.{Planned}
 use Rattle.meaning.specs.declared.Verdict.{Verdict}
+use Rattle.meaning.specs.declared.Told.{Told}
 use Rattle.meaning.specs.declared.Choice.{Choice}
 use Rattle.meaning.specs.declared.Choice.the-variants.{Neither, First, Second}
 use Rattle.gateway.specs.declared.YardPlanned.{YardPlanned}
 use Rattle.gateway.specs.declared.YardVerdict.{YardVerdict}
+use Rattle.gateway.specs.declared.YardTold.{YardTold}
 
 -- "Numbers returned": number, place, colours, slots and bytes written
 abbrev pub flatPlanned : Planned → YardPlanned
@@ -16,6 +17,10 @@ flatPlanned r =
 -- "Numbers returned": number, place and slots
 abbrev pub flatVerdict : Verdict → YardVerdict
 flatVerdict r = record { number = r .outcome .number; place = r .outcome .place; slots = r .slots }
+
+-- Demand 3, on the telephone: number, place, and the slots at least, in our plan and at most
+abbrev pub flatTold : Told → YardTold
+flatTold r = record { number = r .outcome .number; place = r .outcome .place; least = r .least; ours = r .ours; most = r .most }
 
 -- "Numbers returned": which plan the chooser hands back
 abbrev pub choiceNumber : Choice → ℕ

@@ -1,13 +1,16 @@
-// The library for gateways: planners, judge, chooser and lister over pointers and lengths, as include/yard.h declares them.
+// The library for gateways: telephone, planners, judge, chooser and lister over pointers and lengths, as include/yard.h declares them.
 ghost use mathlib.Core.Path.{_≡_};
 ghost use lib.ListN.{length};
+ghost use Rattle.meaning.specs.Plan.{front};
 ghost use Rattle.meaning.specs.Rounds.{byProbe, byLevel};
-ghost use Rattle.meaning.specs.Answer.{planAnswer, planBuffer};
+ghost use Rattle.meaning.specs.Answer.{planMade};
 ghost use Rattle.meaning.specs.Judge.{judge, choice};
+ghost use Rattle.meaning.specs.Telephone.{asked};
 ghost use Rattle.listing.specs.Listed.{listedLength, listedIn};
-ghost use Rattle.gateway.specs.Flat.{flatPlanned, flatVerdict, choiceNumber};
+ghost use Rattle.gateway.specs.Flat.{flatPlanned, flatVerdict, flatTold, choiceNumber};
 use meaning::Choice;
 use meaning::Planned;
+use meaning::Told;
 use meaning::Verdict;
 
 // What a planner answers, with C's layout.
@@ -26,6 +29,16 @@ pub struct YardVerdict {
     pub number: u8,
     pub place: u16,
     pub slots: u16,
+}
+
+// What the telephone answers, with C's layout.
+#[repr(C)]
+pub struct YardTold {
+    pub number: u8,
+    pub place: u16,
+    pub least: u16,
+    pub ours: u16,
+    pub most: u16,
 }
 
 fn planned(r: Planned) -> YardPlanned
@@ -52,11 +65,33 @@ fn verdict(r: Verdict) -> YardVerdict
     }
 }
 
+fn told(r: Told) -> YardTold
+    ensures { λ f. ⌜ f ≡ flatTold r ⌝ }
+{
+    let outcome = r.outcome;
+    YardTold {
+        number: outcome.number,
+        place: outcome.place,
+        least: r.least,
+        ours: r.ours,
+        most: r.most,
+    }
+}
+
+// The telephone.
+#[no_mangle]
+pub extern "C" fn yard_ask(sheet: &[u8]) -> YardTold
+    ensures { λ r. ⌜ r ≡ flatTold (asked (now (sheet .entry))) ⌝ }
+{
+    let r = telephone::ask(sheet);
+    told(r)
+}
+
 // The plan by probe.
 #[no_mangle]
 pub extern "C" fn yard_by_probe(sheet: &[u8], buf: &mut [u8]) -> YardPlanned
-    ensures answer { λ r. ⌜ r ≡ flatPlanned (planAnswer (now (sheet .entry)) (byProbe (now (sheet .entry))) (length (now (buf .entry)))) ⌝ }
-    ensures buffer { λ _. ⌜ now (buf .exit) ≡ planBuffer (now (sheet .entry)) (byProbe (now (sheet .entry))) (now (buf .entry)) ⌝ }
+    ensures answer { λ r. ⌜ r ≡ flatPlanned (planMade byProbe (now (sheet .entry)) (length (now (buf .entry))) .answer) ⌝ }
+    ensures buffer { λ _. ⌜ now (buf .exit) ≡ front (now (buf .entry)) (planMade byProbe (now (sheet .entry)) (length (now (buf .entry))) .written) ⌝ }
 {
     let r = plan::by_probe(sheet, buf);
     planned(r)
@@ -65,8 +100,8 @@ pub extern "C" fn yard_by_probe(sheet: &[u8], buf: &mut [u8]) -> YardPlanned
 // The plan by level.
 #[no_mangle]
 pub extern "C" fn yard_by_level(sheet: &[u8], buf: &mut [u8]) -> YardPlanned
-    ensures answer { λ r. ⌜ r ≡ flatPlanned (planAnswer (now (sheet .entry)) (byLevel (now (sheet .entry))) (length (now (buf .entry)))) ⌝ }
-    ensures buffer { λ _. ⌜ now (buf .exit) ≡ planBuffer (now (sheet .entry)) (byLevel (now (sheet .entry))) (now (buf .entry)) ⌝ }
+    ensures answer { λ r. ⌜ r ≡ flatPlanned (planMade byLevel (now (sheet .entry)) (length (now (buf .entry))) .answer) ⌝ }
+    ensures buffer { λ _. ⌜ now (buf .exit) ≡ front (now (buf .entry)) (planMade byLevel (now (sheet .entry)) (length (now (buf .entry))) .written) ⌝ }
 {
     let r = plan::by_level(sheet, buf);
     planned(r)

@@ -15,8 +15,8 @@ use Rattle.meaning.specs.Judge.{Judging, slotJudged, slotsJudged}
 use Rattle.laws.proofs.Turns.{forEach-keeps, length-tab}
 use Rattle.laws.proofs.Moving.{weigh}
 use Rattle.laws.proofs.Grounds.{packets-first, few-probes, few-packets, parent-node}
-use Rattle.judge.specs.Turn.{judgingFrom}
-use Rattle.judge.proofs.Turning.{turn-long, turn-kept}
+use Rattle.judge.specs.SlotTurn.{judgingFrom}
+use Rattle.judge.proofs.SlotTurn.{turn-long, turn-kept}
 
 -- what every turn keeps: a list by node, and as many packets together
 pub record Kept (packets : ℕ) (now : Judging) : Type 0 where
@@ -45,9 +45,13 @@ module _ (p : ℕ) (parent : ℕ → ℕ) (relation : ℕ → ℕ → Bool) (pla
       step k now kept true = kept-on (k + 1) now kept
       step k now kept false = kept
 
--- document 01, of an accepted sheet and any plan, after any number of slots, up to the first that is refused
-pub conserved : (s plan : List ℕ) (k : ℕ) → isAccepted (sheetTest s) ≡ true
-    → weigh (λ _. 1) (slotsJudged (probeCount s) (parentOf s) (entry (conflictTable s)) plan k (judgingFrom 2 (tab places (packetsOf s))) .held) ≡ allPackets s
+-- all packets that the nodes hold after the first k slots of a plan, up to the first that is refused
+abbrev pub packetsAfter : (s plan : List ℕ) → (k : ℕ) → ℕ
+packetsAfter s plan k =
+    weigh (λ _. 1) (slotsJudged (probeCount s) (parentOf s) (entry (conflictTable s)) plan k (judgingFrom 2 (tab places (packetsOf s))) .held)
+
+-- document 01, of an accepted sheet and any plan
+pub conserved : (s plan : List ℕ) (k : ℕ) → isAccepted (sheetTest s) ≡ true → packetsAfter s plan k ≡ allPackets s
 conserved s plan k h =
     let few = few-probes s h in
     let all = packets-first s few in

@@ -14,17 +14,20 @@ use Rattle.meaning.specs.Sheet.{twoAt, probeCount, pairCount, pairRecords, pare
 use Rattle.meaning.specs.Conflict.{entry, tableOf, conflict, conflictTable}
 use Rattle.meaning.specs.Rounds.{outside}
 use Rattle.meaning.specs.Answer.{accepted, isAccepted, given, _then_, sheetTest}
+use Rattle.meaning.specs.Legal.{Good}
 use Rattle.meaning.specs.Judge.{Judging, slotsJudged, planJudgedBy, planJudged, judge}
 use Rattle.laws.proofs.Turns.{length-tab}
 use Rattle.laws.proofs.Accepted.{then-stays, then-goes}
 use Rattle.laws.proofs.Grounds.{few-probes, few-packets, parent-node}
+use Rattle.laws.proofs.Walk.{not-both}
+use Rattle.laws.proofs.Exact.{passed-good, good-passed}
 use Rattle.laws.specs.Few.{atMost63}
 use Rattle.laws.proofs.Few.{as-many}
 use Rattle.sheet.specs.declared.Tree.{Tree}
 use Rattle.sheet.specs.Tree.{treeOf}
 use Rattle.sheet.proofs.Standing.{Standing, standing, outcome-read, parents-read, conflicts-read}
-use Rattle.judge.specs.Turn.{judgingFrom, Ready, refusedVerdict}
-use Rattle.judge.proofs.Going.{come}
+use Rattle.judge.specs.SlotTurn.{judgingFrom, Ready, refusedVerdict}
+use Rattle.judge.proofs.SlotBySlot.{come}
 
 -- the stages behind the slots: `o`, `at` and `held` are what the slots came to
 module _ (p : ℕ) (parent : ℕ → ℕ) (relation : ℕ → ℕ → Bool) (packets plan : List ℕ) (many : ℕ) (manyIs : many ≡ twoAt plan 0)
@@ -162,3 +165,22 @@ module _ (s plan : List ℕ) where
       -- the plan is passed
       pub plan-passes : (many : ℕ) → many ≡ twoAt plan 0 → o .number ≡ 0 → record { outcome = o; slots = many } ≡ judge s plan
       plan-passes many manyIs none = passes o many manyIs none ∙ ap verdict whole-answer ∙ judged
+
+-- the answer is exact, whatever is said of the plan's first two bytes where it passes
+module _ (s plan : List ℕ) (r : Verdict) (is : r ≡ judge s plan) where
+  abbrev pub Answered : Type 0
+  Answered =
+      (r ≡ judge s plan) × ((isAccepted (r .outcome) ≡ true → Good s plan) × (Good s plan → isAccepted (r .outcome) ≡ true))
+
+  pub exactly : (isAccepted (r .outcome) ≡ true → (getD plan 0 0 < 256) × (getD plan 1 0 < 256)) → Answered
+  exactly bytes = (
+    is,
+    (
+      λ h. let two = bytes h in passed-good s plan (two .0) (two .1) (sym (ap (λ (v : Verdict). isAccepted (v .outcome)) is) ∙ h),
+      λ good. ap (λ (v : Verdict). isAccepted (v .outcome)) (is ∙ good-passed s plan good),
+    ),
+  )
+
+  -- what is refused passes nothing
+  pub exactly-refused : (o : Outcome) → r ≡ refusedVerdict o → isAccepted o ≡ false → Answered
+  exactly-refused o answer refused = exactly (λ h. not-both h (ap (λ (v : Verdict). isAccepted (v .outcome)) answer ∙ refused))

@@ -1,5 +1,5 @@
 -- Laws that the proofs of the judge's functions cite, and what holds of the judging itself.
-pub mod Turning
+pub mod SlotTurn
 pub mod Conserved
-pub mod Going
+pub mod SlotBySlot
 pub mod Judging

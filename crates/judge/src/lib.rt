@@ -1,11 +1,14 @@
 // The judge: a sheet and anybody's plan in, the verdict out.
 ghost use mathlib.Core.Path.{_≡_};
+ghost use mathlib.Core.Bool.{true};
 ghost use Prim.Native.Nat.{_≤_};
-ghost use lib.ListN.{length, getD};
+ghost use lib.ListN.{length};
+ghost use Rattle.meaning.specs.Words.{byNode};
 ghost use Rattle.meaning.specs.Conflict.{entry};
-ghost use Rattle.meaning.specs.Answer.{accepted};
 ghost use Rattle.meaning.specs.Judge.{slotJudged, slotsJudged, judge, planJudgedBy};
-ghost use Rattle.judge.specs.Turn.{judging, judgingFrom, Ready, refusedVerdict};
+ghost use Rattle.meaning.specs.Answer.{isAccepted};
+ghost use Rattle.meaning.specs.Legal.{Good};
+ghost use Rattle.judge.specs.SlotTurn.{judging, judgingFrom, Ready, refusedVerdict};
 use meaning::Outcome;
 use meaning::Slot;
 use meaning::Verdict;
@@ -23,16 +26,6 @@ fn refusal(number: u8, place: u16) -> Outcome
     Outcome { number, place }
 }
 
-// Nothing is wrong.
-fn passed() -> Outcome
-    ensures { λ r. ⌜ r ≡ accepted ⌝ }
-{
-    Outcome {
-        number: 0,
-        place: 0,
-    }
-}
-
 // The slot at a place, 11 first; a passed slot moves its packets.
 fn slot_judged(
     p: u8,
@@ -44,8 +37,9 @@ fn slot_judged(
     held: &mut [u16; 65],
 ) -> Judged
     requires inside { ⌜ at ≤ length (now plan) ⌝ }
-    requires ready { ⌜ Ready p (λ u. getD (now parents) u 0) (now held) ⌝ }
-    ensures { λ r. ⌜ judging r (now (held .exit)) ≡ slotJudged p (λ u. getD (now (parents .entry)) u 0) (entry (now (table .entry))) (now (plan .entry)) (number .0) (judgingFrom at (now (held .entry))) ⌝ }
+    requires ready { ⌜ Ready p (byNode (now parents)) (now held) ⌝ }
+    ensures { λ r. ⌜ judging r (now (held .exit))
+        ≡ slotJudged p (byNode (now (parents .entry))) (entry (now (table .entry))) (now (plan .entry)) (number .0) (judgingFrom at (now (held .entry))) ⌝ }
 {
     let here = slot::slot_at(plan, at);
     let first = here.first;
@@ -73,10 +67,11 @@ fn slots_judged(
     held: &mut [u16; 65],
 ) -> Judged
     requires two { ⌜ 2 ≤ length (now plan) ⌝ }
-    requires ready { ⌜ Ready p (λ u. getD (now parents) u 0) (now held) ⌝ }
-    ensures { λ r. ⌜ judging r (now (held .exit)) ≡ slotsJudged p (λ u. getD (now (parents .entry)) u 0) (entry (now (table .entry))) (now (plan .entry)) many (judgingFrom 2 (now (held .entry))) ⌝ }
+    requires ready { ⌜ Ready p (byNode (now parents)) (now held) ⌝ }
+    ensures { λ r. ⌜ judging r (now (held .exit))
+        ≡ slotsJudged p (byNode (now (parents .entry))) (entry (now (table .entry))) (now (plan .entry)) many (judgingFrom 2 (now (held .entry))) ⌝ }
 {
-    let mut outcome = passed();
+    let mut outcome = meaning::ACCEPTED;
     let mut at: usize = 2;
     let mut k: u16 = 0;
     while k < many {
@@ -92,7 +87,7 @@ fn slots_judged(
 }
 
 // The slots of a plan, then 16, then 17.
-fn plan_test(
+fn plan_judged_by(
     p: u8,
     parents: &[u8; 65],
     table: &[[bool; 65]; 65],
@@ -100,8 +95,8 @@ fn plan_test(
     plan: &[u8],
 ) -> Outcome
     requires two { ⌜ 2 ≤ length (now plan) ⌝ }
-    requires ready { ⌜ Ready p (λ u. getD (now parents) u 0) packets ⌝ }
-    ensures { λ r. ⌜ r ≡ planJudgedBy p (λ u. getD (now (parents .entry)) u 0) (entry (now (table .entry))) packets (now (plan .entry)) ⌝ }
+    requires ready { ⌜ Ready p (byNode (now parents)) packets ⌝ }
+    ensures { λ r. ⌜ r ≡ planJudgedBy p (byNode (now (parents .entry))) (entry (now (table .entry))) packets (now (plan .entry)) ⌝ }
 {
     let many = slot::slot_count(plan);
     let mut held = slot::wide(packets);
@@ -116,7 +111,7 @@ fn plan_test(
     if slot::any_outside(p, &held) {
         return refusal(17, many);
     }
-    passed()
+    meaning::ACCEPTED
 }
 
 // What the judge answers where it refuses.
@@ -128,7 +123,9 @@ fn refused(outcome: Outcome) -> Verdict
 
 // Judges a plan against a sheet: the sheet first, then the plan.
 pub fn judge(sheet: &[u8], plan: &[u8]) -> Verdict
-    ensures { λ r. ⌜ r ≡ judge (now (sheet .entry)) (now (plan .entry)) ⌝ }
+    ensures answer { λ r. ⌜ r ≡ judge (now (sheet .entry)) (now (plan .entry)) ⌝ }
+    ensures exact { λ r. ⌜ (isAccepted (r .outcome) ≡ true → Good (now (sheet .entry)) (now (plan .entry)))
+        × (Good (now (sheet .entry)) (now (plan .entry)) → isAccepted (r .outcome) ≡ true) ⌝ }
 {
     let tree = sheet::read(sheet);
     let read = tree.outcome;
@@ -142,7 +139,7 @@ pub fn judge(sheet: &[u8], plan: &[u8]) -> Verdict
     let parents = tree.parents;
     let packets = tree.packets;
     let table = sheet::conflicts(sheet, p, parents);
-    let outcome = plan_test(p, &parents, &table, packets, plan);
+    let outcome = plan_judged_by(p, &parents, &table, packets, plan);
     if outcome.number != 0 {
         return refused(outcome);
     }

@@ -1,20 +1,20 @@
 -- What every sheet's conflicts have in common: they go both ways, never from a probe to itself, and only between probes.
-use mathlib.Core.Path.{_≡_, refl, sym, ap, ap₂, _∙_, subst}
+use mathlib.Core.Path.{_≡_, refl, sym, ap, ap₂, _∙_}
 use mathlib.Core.Bool.{Bool, true, false, not, _&&_, _||_, or-comm, or-true}
 use mathlib.Core.List.{List, []}
-use mathlib.Core.Logic.{_⊎_, inl, inr, ⊎-elim}
+use mathlib.Core.Logic.{_⊎_, ⊎-elim}
 use Prim.Native.Nat.{ℕ, _+_, _≤_, _<_}
 use native.Mathlib.Decide.{decLt}
 use native.Mathlib.Omega.{arith}
 use borrow.Author.Tests.{leb-true, not-true, eq-eqb, ne-eqb, eqb-true, eqb-false}
 use lib.Dec.{eqb, leb}
-use lib.ListN.{getD, length, List·getD-eq-default}
-use Rattle.meaning.specs.Words.{some, tab, places}
+use lib.ListN.{getD, List·getD-eq-default}
+use Rattle.meaning.specs.Words.{tab, places}
 use Rattle.meaning.specs.Yard.{isProbe}
-use Rattle.meaning.specs.Sheet.{firstOf, secondOf, probeCount, pairCount, pairRecords, parentOf, interfere}
-use Rattle.meaning.specs.Conflict.{linked, disturb, conflict, tableOf, entry, conflictTable}
+use Rattle.meaning.specs.Sheet.{firstOf, secondOf, interfere}
+use Rattle.meaning.specs.Conflict.{linked, disturb, conflict, tableOf, entry}
 use Rattle.laws.proofs.Turns.{some-same, getD-tab, getD-places, length-tab}
-use Rattle.laws.proofs.Slots.{and-left, and-right, never, true-or-false}
+use Rattle.laws.proofs.Slots.{and-left, and-right, true-or-false}
 use Rattle.laws.proofs.Colouring.{Conflicts}
 
 -- a table read anywhere is the relation that it was made of, if that holds between nodes alone

@@ -12,17 +12,17 @@ use native.Mathlib.Omega.{arith}
 use lib.Dec.{ltb}
 use lib.ListN.{length, getD, take, drop, length-append, length-drop, List·getD-eq-default}
 use lib.Seq.{take-suc, take-add, take-all, take-at, drop-at, drop-drop, getD-drop, length-take-le}
-use borrow.Author.Tests.{ltb-true, ltb-false, leb-false, lt-ltb, le-ltb, lt-leb, not-false}
+use borrow.Author.Tests.{ltb-true, ltb-false, lt-ltb, le-ltb, lt-leb}
 use Rattle.meaning.specs.declared.Outcome.{Outcome}
 use Rattle.meaning.specs.declared.Verdict.{Verdict}
 use Rattle.meaning.specs.Words.{forEach}
 use Rattle.meaning.specs.Sheet.{twoAt, probeCount, pairCount, pairRecords, parentOf, interfere}
 use Rattle.meaning.specs.Conflict.{entry, conflictTable}
-use Rattle.meaning.specs.Plan.{twoBytes, slotBytes, planBytes}
-use Rattle.meaning.specs.Rounds.{holds, outside, moved}
+use Rattle.meaning.specs.Plan.{twoBytes, slotBytes, planBytes, nextAt, sendersAt}
+use Rattle.meaning.specs.Rounds.{holds, outside, moved, heldAfter}
 use Rattle.meaning.specs.Answer.{accepted, isAccepted, given, _then_, sheetTest}
-use Rattle.meaning.specs.Judge.{Judging, nextAt, sendersAt, slotTest, slotJudged, slotsJudged, planJudgedBy, planJudged, judge}
-use Rattle.meaning.specs.Legal.{clash, Legal, heldAfter, Runs, heldFirst, Arrived, Good}
+use Rattle.meaning.specs.Judge.{Judging, slotTest, slotJudged, slotsJudged, planJudgedBy, planJudged, judge}
+use Rattle.meaning.specs.Legal.{clash, Legal, Runs, heldFirst, Arrived, Good}
 use Rattle.laws.proofs.Turns.{below-or-last, forEach-one, some-none, none-some}
 use Rattle.laws.proofs.Walk.{not-both, probe-yes, probe-least, probe-most}
 use Rattle.laws.proofs.Moving.{Each}
@@ -30,13 +30,14 @@ use Rattle.laws.proofs.Slots.{each-append}
 use Rattle.laws.proofs.Conflicting.{entry-conflict, interfere-sym}
 use Rattle.laws.proofs.Accepted.{then-goes, then-accepted, given-accepted, accepted-yard}
 use Rattle.laws.proofs.Running.{each-at, at-each, legal-few}
+use Rattle.laws.proofs.Passed.{told, Passes, turn}
 
 -- a test that gives no number leaves the answer to the next
-passes : (number place : ℕ) (test : Bool) (next : Outcome) → test ≡ false → (given number place test then next) ≡ next
+pub passes : (number place : ℕ) (test : Bool) (next : Outcome) → test ≡ false → (given number place test then next) ≡ next
 passes number place test next e =
     ap (λ (t : Bool). given number place t then next) e ∙ then-goes accepted next refl
 
-gives-none : (number place : ℕ) (test : Bool) → test ≡ false → given number place test ≡ accepted
+pub gives-none : (number place : ℕ) (test : Bool) → test ≡ false → given number place test ≡ accepted
 gives-none number place test e = ap (λ (t : Bool). given number place t) e
 
 -- numbers that rise from each to the next rise throughout
@@ -47,9 +48,6 @@ rises f n next i (suc j) h l =
     ⊎-elim (λ (below : i < j). omega (arith, rises f n next i j below (omega arith)))
     (λ (last : i ≡ j). omega (arith, ap f last))
     (below-or-last i j h)
-
-and-so : (a b : Bool) → a ≡ true → (a && b) ≡ false → b ≡ false
-and-so a b t e = sym (ap (λ (c : Bool). c && b) t) ∙ e
 
 both-or-false : (a b : Bool) → (a ≡ true → b ≡ false) → (a && b) ≡ false
 both-or-false true b so = so refl
@@ -68,24 +66,13 @@ module _ (s : List ℕ) (ok : isAccepted (sheetTest s) ≡ true) (held : List �
 
   -- a slot that passes is legal
   passed-legal : isAccepted tested ≡ true → Legal s held slot
-  unfolding slotTest
   passed-legal h =
-      let probes = then-accepted _ _ h in
-      let rising = then-accepted _ _ (probes .1) in
-      let holding = then-accepted _ _ (rising .1) in
+      let is = told (probeCount s) (entry (conflictTable s)) held place slot h in
       record {
-        probes = λ i l. not-false _ (some-none (length slot) _ (given-accepted 12 place _ refl (probes .0)) i l);
-        rising =
-            rises (λ i. getD slot i 0) (length slot)
-            (λ i l. leb-false (getD slot (i + 1) 0) (getD slot i 0) (some-none (length slot - 1) _ (given-accepted 13 place _ refl (rising .0)) i (omega arith)));
-        holding =
-            λ i l.
-            ltb-true 0 (getD held (getD slot i 0) 0) (not-false _ (some-none (length slot) _ (given-accepted 14 place _ refl (holding .0)) i l));
-        apart =
-            λ i j h l.
-            sym (table-clash s ok (getD slot i 0) (getD slot j 0))
-            ∙ and-so (ltb i j) _ (lt-ltb i j h)
-            (some-none (length slot) _ (some-none (length slot) _ (given-accepted 15 place _ refl (holding .1)) i (omega arith)) j l);
+        probes = is .probes;
+        rising = rises (λ i. getD slot i 0) (length slot) (is .rises);
+        holding = is .holding;
+        apart = λ i j h l. sym (table-clash s ok (getD slot i 0) (getD slot j 0)) ∙ is .apart i j h l;
       }
 
   -- a legal slot passes
@@ -112,12 +99,12 @@ slot-bytes-append [] ys = refl
 slot-bytes-append (x ∷ xs) ys =
     ap (λ (l : List ℕ). (length x ∷ x) ++ l) (slot-bytes-append xs ys) ∙ sym (append-assoc (length x ∷ x) (slotBytes xs) (slotBytes ys))
 
-pub held-append : (s held : List ℕ) (xs ys : List (List ℕ)) → heldAfter s held (xs ++ ys) ≡ heldAfter s (heldAfter s held xs) ys
+pub held-append : (parent : ℕ → ℕ) (held : List ℕ) (xs ys : List (List ℕ)) → heldAfter parent held (xs ++ ys) ≡ heldAfter parent (heldAfter parent held xs) ys
 unfolding heldAfter
-held-append s held [] ys = refl
-held-append s held (x ∷ xs) ys = held-append s (moved (parentOf s) x held) xs ys
+held-append parent held [] ys = refl
+held-append parent held (x ∷ xs) ys = held-append parent (moved parent x held) xs ys
 
-pub runs-append : (s held : List ℕ) (xs ys : List (List ℕ)) → Runs s held xs → Runs s (heldAfter s held xs) ys → Runs s held (xs ++ ys)
+pub runs-append : (s held : List ℕ) (xs ys : List (List ℕ)) → Runs s held xs → Runs s (heldAfter (parentOf s) held xs) ys → Runs s held (xs ++ ys)
 unfolding heldAfter Runs
 runs-append s held [] ys before behind = behind
 runs-append s held (x ∷ xs) ys before behind = (before .0, runs-append s (moved (parentOf s) x held) xs ys (before .1) behind)
@@ -141,39 +128,13 @@ module _ (s : List ℕ) (ok : isAccepted (sheetTest s) ≡ true) (plan : List �
   abbrev step : ℕ → Judging → Judging
   step place now = slotJudged (probeCount s) (parentOf s) (entry (conflictTable s)) plan place now
 
-  -- the judge passes the slot at `at`, and then stands behind it
-  record Passed (at : ℕ) (held : List ℕ) (next : Judging) : Type 0 where
-    within : nextAt plan at ≤ length plan
-    legal : Legal s held (sendersAt plan at)
-    stands : next .at ≡ nextAt plan at
-    holding : next .held ≡ moved (parentOf s) (sendersAt plan at) held
+  abbrev Step : ℕ → Judging → Type 0
+  Step place now = Passes (probeCount s) (parentOf s) (entry (conflictTable s)) plan place now
 
-  slot-passed : (place : ℕ) (now : Judging) → isAccepted (step place now .outcome) ≡ true → Passed (now .at) (now .held) (step place now)
-  unfolding slotJudged
-  slot-passed place now h = go (isAccepted outcome) refl h
-    where
-      slot : List ℕ
-      slot = sendersAt plan (now .at)
-
-      outcome : Outcome
-      outcome = given 11 place (ltb (length plan) (nextAt plan (now .at))) then slotTest (probeCount s) (entry (conflictTable s)) (now .held) place slot
-
-      passed : Judging
-      passed = record { outcome = outcome; at = nextAt plan (now .at); held = moved (parentOf s) slot (now .held) }
-
-      refused : Judging
-      refused = record { outcome = outcome; at = now .at; held = now .held }
-
-      go : (b : Bool) → isAccepted outcome ≡ b → isAccepted (cond b passed refused .outcome) ≡ true → Passed (now .at) (now .held) (cond b passed refused)
-      go false e q = not-both q e
-      go true e q =
-          let both = then-accepted _ _ e in
-          record {
-            within = ltb-false (length plan) (nextAt plan (now .at)) (given-accepted 11 place _ refl (both .0));
-            legal = passed-legal s ok (now .held) place slot (both .1);
-            stands = refl;
-            holding = refl;
-          }
+  slot-passed : (place : ℕ) (now : Judging) → isAccepted (step place now .outcome) ≡ true → Step place now
+  slot-passed place now h =
+      ⊎-elim (λ pass. pass) (λ refuses. not-both h (refuses .refused))
+      (turn (probeCount s) (parentOf s) (entry (conflictTable s)) plan place now)
 
   -- and a legal slot is passed
   slot-judged : (place at : ℕ) (held : List ℕ) → nextAt plan at ≤ length plan → Legal s held (sendersAt plan at)
@@ -201,29 +162,29 @@ module _ (s : List ℕ) (ok : isAccepted (sheetTest s) ≡ true) (plan : List �
     within : now .at ≤ length plan
     bytes : take (now .at) plan ≡ take 2 plan ++ slotBytes slots
     runs : Runs s (heldFirst s) slots
-    holding : heldAfter s (heldFirst s) slots ≡ now .held
+    holding : heldAfter (parentOf s) (heldFirst s) slots ≡ now .held
 
   -- one slot more
-  read-next : (n : ℕ) (now next : Judging) (slots : List (List ℕ)) → Read n now slots → Passed (now .at) (now .held) next
-      → Read (suc n) next (slots ++ (sendersAt plan (now .at) ∷ []))
+  read-next : (n : ℕ) (now : Judging) (slots : List (List ℕ)) → Read n now slots → Step (n + 1) now
+      → Read (suc n) (step (n + 1) now) (slots ++ (sendersAt plan (now .at) ∷ []))
   unfolding Runs heldAfter
-  read-next n now next slots read passed =
+  read-next n now slots read pass =
       record {
         many = length-append slots (slot ∷ []) ∙ omega (arith, read .many);
-        within = omega (arith, passed .within, passed .stands);
+        within = omega (arith, pass .within, pass .next);
         bytes =
-            ap (λ (k : ℕ). take k plan) (passed .stands)
-            ∙ next-bytes plan (now .at) (passed .within)
+            ap (λ (k : ℕ). take k plan) (pass .next)
+            ∙ next-bytes plan (now .at) (pass .within)
             ∙ ap (λ (l : List ℕ). l ++ slotBytes (slot ∷ [])) (read .bytes)
             ∙ append-assoc (take 2 plan) (slotBytes slots) (slotBytes (slot ∷ []))
             ∙ ap (λ (l : List ℕ). take 2 plan ++ l) (sym (slot-bytes-append slots (slot ∷ [])));
         runs =
             runs-append s (heldFirst s) slots (slot ∷ []) (read .runs)
-            (subst (λ (held : List ℕ). Legal s held slot) (sym (read .holding)) (passed .legal), tt);
+            (subst (λ (held : List ℕ). Legal s held slot) (sym (read .holding)) (passed-legal s ok (now .held) (n + 1) slot (pass .tested)), tt);
         holding =
-            held-append s (heldFirst s) slots (slot ∷ [])
+            held-append (parentOf s) (heldFirst s) slots (slot ∷ [])
             ∙ ap (λ (held : List ℕ). moved (parentOf s) slot held) (read .holding)
-            ∙ sym (passed .holding);
+            ∙ sym (pass .moves);
       }
     where
       slot : List ℕ
@@ -241,7 +202,7 @@ module _ (s : List ℕ) (ok : isAccepted (sheetTest s) ≡ true) (plan : List �
       go true e q before =
           let read = before e in (
             read .0 ++ (sendersAt plan (judged n .at) ∷ []),
-            read-next n (judged n) (step (n + 1) (judged n)) (read .0) (read .1) (slot-passed (n + 1) (judged n) q),
+            read-next n (judged n) (read .0) (read .1) (slot-passed (n + 1) (judged n) q),
           )
 
   -- what the judge reads where a slot's bytes stand
@@ -275,14 +236,14 @@ module _ (s : List ℕ) (ok : isAccepted (sheetTest s) ≡ true) (plan : List �
   -- slots that run are passed, one after the other
   run : (k at : ℕ) (held : List ℕ) (slots : List (List ℕ)) → judged k ≡ record { outcome = accepted; at = at; held = held }
       → drop at plan ≡ slotBytes slots → Runs s held slots
-      → judged (k + length slots) ≡ record { outcome = accepted; at = at + length (slotBytes slots); held = heldAfter s held slots }
+      → judged (k + length slots) ≡ record { outcome = accepted; at = at + length (slotBytes slots); held = heldAfter (parentOf s) held slots }
   unfolding Runs heldAfter slotBytes
   run k at held [] now bytes runs =
       ap judged (add-zero k) ∙ now ∙ ap (λ (a : ℕ). record { outcome = accepted; at = a; held = held }) (sym (add-zero at))
   run k at held (slot ∷ slots) now bytes runs =
       ap judged more
       ∙ run (k + 1) (nextAt plan at) (moved (parentOf s) slot held) slots next (read-behind at slot (slotBytes slots) bytes) (runs .1)
-      ∙ ap (λ (a : ℕ). record { outcome = accepted; at = a; held = heldAfter s (moved (parentOf s) slot held) slots }) behind
+      ∙ ap (λ (a : ℕ). record { outcome = accepted; at = a; held = heldAfter (parentOf s) (moved (parentOf s) slot held) slots }) behind
     where
       more : k + length (slot ∷ slots) ≡ k + 1 + length slots
       more = omega arith
@@ -325,10 +286,10 @@ outside-none s held arrived =
     none-some (probeCount s) (λ k. holds held (k + 2))
     (λ k l. le-ltb 0 (getD held (k + 2) 0) (omega (arith, arrived (k + 2) (probe-yes (probeCount s) (k + 2) (omega arith) (omega arith)))))
 
--- a plan that the judge passes is good; its elements are bytes, of which the first two say how many slots there are
-pub passed-good : (s plan : List ℕ) → ((k : ℕ) → getD plan k 0 < 256) → isAccepted (judge s plan .outcome) ≡ true → Good s plan
+-- a plan that the judge passes is good; its first two elements, which say how many slots there are, are bytes
+pub passed-good : (s plan : List ℕ) → getD plan 0 0 < 256 → getD plan 1 0 < 256 → isAccepted (judge s plan .outcome) ≡ true → Good s plan
 unfolding judge planJudged planJudgedBy
-passed-good s plan bytes h =
+passed-good s plan high low h =
     let sheet = then-accepted _ _ h in
     let two = then-accepted _ _ (sheet .1) in
     let slots = then-accepted _ _ (two .1) in
@@ -339,11 +300,11 @@ passed-good s plan bytes h =
     record {
       sheet = sheet .0;
       slots = read .0;
-      few = omega (arith, read .1 .many, bytes 0, bytes 1);
+      few = omega (arith, read .1 .many, high, low);
       written =
           sym (take-all (judged s (sheet .0) plan (twoAt plan 0) .at) plan all)
           ∙ read .1 .bytes
-          ∙ ap (λ (l : List ℕ). l ++ slotBytes (read .0)) (two-of plan long (bytes 0) (bytes 1))
+          ∙ ap (λ (l : List ℕ). l ++ slotBytes (read .0)) (two-of plan long high low)
           ∙ ap (λ (n : ℕ). twoBytes n ++ slotBytes (read .0)) (sym (read .1 .many));
       runs = read .1 .runs;
       arrived =
@@ -361,7 +322,7 @@ module _ (s plan : List ℕ) (good : Good s plan) where
 
   -- where the judge stands after the last slot
   last : Judging
-  last = record { outcome = accepted; at = 2 + length (slotBytes (good .slots)); held = heldAfter s (heldFirst s) (good .slots) }
+  last = record { outcome = accepted; at = 2 + length (slotBytes (good .slots)); held = heldAfter (parentOf s) (heldFirst s) (good .slots) }
 
   to-the-last : judged s (good .sheet) plan (twoAt plan 0) ≡ last
   unfolding last slotsJudged forEach
@@ -380,7 +341,7 @@ module _ (s plan : List ℕ) (good : Good s plan) where
       to-the-last
       ∙ then-goes accepted _ refl
       ∙ passes 16 (twoAt plan 0) _ _ (le-ltb (2 + length (slotBytes (good .slots))) (length plan) (omega (arith, long-plan)))
-      ∙ gives-none 17 (twoAt plan 0) _ (outside-none s (heldAfter s (heldFirst s) (good .slots)) (good .arrived))
+      ∙ gives-none 17 (twoAt plan 0) _ (outside-none s (heldAfter (parentOf s) (heldFirst s) (good .slots)) (good .arrived))
 
   pub good-passed : judge s plan ≡ record { outcome = accepted; slots = length (good .slots) }
   unfolding judge
@@ -416,10 +377,10 @@ good-bytes s plan good k = go (decLt k (length plan))
     go (no l) = omega (arith, List·getD-eq-default plan 0 {n = k} (omega arith))
 
 -- so a plan is passed exactly where it is good, and the slots that the judge counts are those of the plan
-pub judge-exact : (s plan : List ℕ) → ((k : ℕ) → getD plan k 0 < 256)
+pub judge-exact : (s plan : List ℕ) → getD plan 0 0 < 256 → getD plan 1 0 < 256
     → (isAccepted (judge s plan .outcome) ≡ true → (good : Good s plan) × (judge s plan .slots ≡ length (good .slots)))
     × (Good s plan → isAccepted (judge s plan .outcome) ≡ true)
-judge-exact s plan bytes = (
-  λ h. let good = passed-good s plan bytes h in (good, ap (λ (v : Verdict). v .slots) (good-passed s plan good)),
+judge-exact s plan high low = (
+  λ h. let good = passed-good s plan high low h in (good, ap (λ (v : Verdict). v .slots) (good-passed s plan good)),
   λ good. ap (λ (v : Verdict). isAccepted (v .outcome)) (good-passed s plan good),
 )

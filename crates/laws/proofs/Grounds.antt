@@ -1,5 +1,5 @@
 -- What an accepted sheet gives to plan on: each probe stands one level above its parent, the packets are few, and where they begin they weigh the hops.
-use mathlib.Core.Path.{_≡_, refl, sym, ap, _∙_, fun-ext}
+use mathlib.Core.Path.{_≡_, sym, ap, _∙_, fun-ext}
 use mathlib.Core.Bool.{Bool, true, false, cond}
 use mathlib.Core.List.{List}
 use mathlib.Core.Logic.{⊎-elim}

@@ -5,16 +5,17 @@ use mathlib.Core.List.{List, [], _∷_}
 use mathlib.Core.Logic.{_≢_, ⊎-elim}
 use Prim.Native.Nat.{ℕ, zero, suc, _+_, _-_, _≤_, _<_}
 use native.Mathlib.Nat.{not-suc-le-zero}
+use native.Mathlib.Decide.{decLt}
 use native.Mathlib.Omega.{arith}
 use borrow.Author.Tests.{not-true}
-use lib.ListN.{length, getD, set, replicate, length-set, length-append}
+use lib.ListN.{length, getD, set, replicate, length-set, length-append, List·getD-eq-default}
 use lib.Seq.{getD-set-same, getD-set-other}
 use Rattle.meaning.specs.Words.{forEach, places, someProbe, probesThat}
-use Rattle.meaning.specs.Rounds.{joins, joined, clashes, senders, slotOf}
+use Rattle.meaning.specs.Rounds.{joins, joined, clashes, slotOf}
 use Rattle.laws.proofs.Turns.{below-or-last, forEach-one, forEach-keeps, some-found, some-none, some-where, same-or-other}
 use Rattle.laws.proofs.Walk.{not-both}
 use Rattle.laws.proofs.Moving.{Each}
-use Rattle.laws.proofs.Slots.{and-left, and-right, true-or-false, each-probe}
+use Rattle.laws.proofs.Slots.{and-left, and-right, never, true-or-false, each-probe}
 use Rattle.laws.proofs.Colouring.{Conflicts}
 
 -- v is chosen
@@ -142,11 +143,7 @@ module _ (relation : ℕ → ℕ → Bool) (may : ℕ → Bool) where
   -- the senders of a slot are chosen
   pub each-chosen : (p : ℕ) (owners : List Bool) → Each (Chosen (joined p relation may owners)) (slotOf p relation may owners)
   unfolding slotOf Each
-  each-chosen p owners = go (someProbe p (λ v. getD owners v false))
-    where
-      go : (b : Bool) → Each (Chosen (joined p relation may owners)) (cond b (senders p (joined p relation may owners)) [])
-      go false = tt
-      go true = each-probe (Chosen (joined p relation may owners)) p (λ v. getD (joined p relation may owners) v false) (λ k _ e. e)
+  each-chosen p owners = each-probe (Chosen (joined p relation may owners)) p (λ v. getD (joined p relation may owners) v false) (λ k _ e. e)
 
 -- a probe that passes is a sender
 some-sender : (p : ℕ) (test : ℕ → Bool) (k : ℕ) → k < p → test (k + 2) ≡ true → 1 ≤ length (probesThat p test)
@@ -161,17 +158,20 @@ some-sender (suc p) test k h e =
     omega (arith, whole, last))
     (below-or-last k p h)
 
--- where there is an owner, there is a slot
-pub owned-slot : (p : ℕ) (relation : ℕ → ℕ → Bool) (may : ℕ → Bool) (owners : List Bool) → p + 2 ≤ places → length owners ≡ places
-    → someProbe p (λ v. getD owners v false) ≡ true → 1 ≤ length (slotOf p relation may owners)
+-- one that is chosen has its place among the flags
+pub chosen-within : (chosen : List Bool) (v : ℕ) → Chosen chosen v → v < length chosen
+chosen-within chosen v e = go (decLt v (length chosen))
+  where
+    go : Dec (v < length chosen) → v < length chosen
+    go (yes l) = l
+    go (no l) = never (sym (List·getD-eq-default chosen false {n = v} (omega arith)) ∙ e)
+
+-- where there is an owner, its slot has a sender
+pub owned-slot : (p : ℕ) (relation : ℕ → ℕ → Bool) (may : ℕ → Bool) (owners : List Bool) → someProbe p (λ v. getD owners v false) ≡ true
+    → 1 ≤ length (slotOf p relation may owners)
 unfolding slotOf joined forEach
-owned-slot p relation may owners small long e =
+owned-slot p relation may owners e =
     let found = some-where p (λ k. getD owners (k + 2) false) e in
     let k : ℕ = found .0 in
-    let made = ap (λ (b : Bool). length (cond b (senders p (joined p relation may owners)) [])) e in
-    omega (
-      arith,
-      made,
-      some-sender p (λ v. getD (joined p relation may owners) v false) k (found .1)
-          (joined-keep relation may 0 p (k + 2) owners (omega arith) (omega (arith, found .1, long)) (found .2)),
-    )
+    some-sender p (λ v. getD (joined p relation may owners) v false) k (found .1)
+    (joined-keep relation may 0 p (k + 2) owners (omega arith) (chosen-within owners (k + 2) (found .2)) (found .2))

@@ -10,9 +10,11 @@ pub mod Conflicting
 pub mod Accepted
 pub mod Grounds
 pub mod Running
+pub mod Passed
 pub mod Exact
 pub mod Joining
 pub mod Levels
+pub mod Recorded
 pub mod Own
-pub mod NoEmpty
+pub mod PlanMade
 pub mod Used

@@ -1,6 +1,6 @@
 -- Packets that move: what is held, weighed by any weight of the nodes, changes by what each sender's packet gains on its hop.
 -- With the weight 1 this is conservation, with the level it counts the hops. By recursion over the senders.
-use mathlib.Core.Path.{_≡_, refl, sym, ap, ap₂, _∙_, subst}
+use mathlib.Core.Path.{_≡_, refl, sym, ap, _∙_, subst}
 use mathlib.Core.List.{List, [], _∷_, _++_}
 use mathlib.Core.Logic.{_≢_, ⊎-elim}
 use Prim.Native.Nat.{ℕ, zero, suc, _+_, _-_, _*_, _≤_, _<_}

@@ -17,10 +17,10 @@ use Rattle.meaning.specs.Sheet.{probeCount, parentOf, packetsOf, levelOf, hops}
 use Rattle.meaning.specs.Conflict.{entry, conflictTable}
 use Rattle.meaning.specs.Colour.{coloursUsed, probeColours, levelColours, depth}
 use Rattle.meaning.specs.Plan.{slotBytes, planBytes, roomFor}
-use Rattle.meaning.specs.Rounds.{holds, outside, joined, ownersByProbe, ownersByLevel, moved, Progress, recorded, Way, slotFor, round, rounds, before, byProbe, byLevel, slotsOf}
+use Rattle.meaning.specs.Rounds.{holds, outside, joined, ownersByProbe, ownersByLevel, slotOf, turnOf, moved, heldAfter, Progress, recorded, Way, turn, round, rounds, before, byProbe, byLevel, slotsOf}
 use Rattle.meaning.specs.Answer.{accepted, isAccepted, sheetTest}
 use Rattle.meaning.specs.Judge.{judge}
-use Rattle.meaning.specs.Legal.{Legal, heldAfter, Runs, heldFirst, Arrived, Good}
+use Rattle.meaning.specs.Legal.{Legal, Runs, heldFirst, Arrived, Good}
 use Rattle.laws.proofs.Turns.{below-or-last, forEach-keeps, some-found, some-where, length-tab, getD-tab}
 use Rattle.laws.proofs.Walk.{not-both, probe-yes, probe-least, probe-most}
 use Rattle.laws.proofs.Moving.{Each, length-moved}
@@ -29,6 +29,7 @@ use Rattle.laws.proofs.Accepted.{accepted-yard}
 use Rattle.laws.proofs.Exact.{table-clash, slot-bytes-append, held-append, runs-append, none-outside, good-passed}
 use Rattle.laws.proofs.Joining.{Chosen, Free, nobody-chosen, joined-long, free-joined, one-joined, each-chosen, owned-slot}
 use Rattle.laws.proofs.Grounds.{level-least, hopsLeft, first-left, hops-most}
+use Rattle.laws.proofs.Recorded.{recorded-none}
 use Rattle.laws.proofs.Running.{each-at, rising-at, none-left, legal-left}
 use Rattle.laws.proofs.Levels.{most-holds, table-conflicts, probes-proper, level-deep, depth-most, levels-proper}
 
@@ -44,7 +45,7 @@ pub record Fair (s : List ℕ) (owners : ℕ → (ℕ → Bool) → List Bool) (
 -- a way over the sheet's own probes, parents and conflicts
 abbrev pub wayOver : List ℕ → (ℕ → (ℕ → Bool) → List Bool) → ℕ → Way
 wayOver s owners colours =
-    record { probes = probeCount s; parent = parentOf s; relation = entry (conflictTable s); owners = owners; colours = colours }
+    record { probes = probeCount s; parent = parentOf s; relation = entry (conflictTable s); may = holds; owners = owners; colours = colours }
 
 -- what is true of a plan of our own: it is good, the judge passes it and counts its slots, and they and their bytes are no more than the hops allow
 pub record OwnPlan (s : List ℕ) (way : Way) : Type 0 where
@@ -67,8 +68,18 @@ module _ (s : List ℕ) (ok : isAccepted (sheetTest s) ≡ true) (owners : ℕ �
   unfolding slotBytes
   one-slot slot = omega (arith, length-append slot [])
 
+  -- who owns the slot of a colour, whether there is any, and the slot
+  abbrev owning : ℕ → List ℕ → List Bool
+  owning c held = owners c (holds held)
+
+  abbrev owned : ℕ → List ℕ → Bool
+  owned c held = someProbe (probeCount s) (λ u. getD (owning c held) u false)
+
+  abbrev slotFor : ℕ → List ℕ → List ℕ
+  slotFor c held = slotOf (probeCount s) (entry (conflictTable s)) (holds held) (owning c held)
+
   -- the slot of a colour is legal
-  slot-legal : (c : ℕ) (held : List ℕ) → Legal s held (slotFor way c (holds held))
+  slot-legal : (c : ℕ) (held : List ℕ) → Legal s held (slotFor c held)
   slot-legal c held =
       record {
         probes =
@@ -86,7 +97,7 @@ module _ (s : List ℕ) (ok : isAccepted (sheetTest s) ≡ true) (owners : ℕ �
       }
     where
       slot : List ℕ
-      slot = slotFor way c (holds held)
+      slot = slotFor c held
 
       each : Each (λ v. (holds held v ≡ true) × (2 ≤ v) × (v < probeCount s + 2)) slot
       each = each-slot (probeCount s) (entry (conflictTable s)) (holds held) (owners c (holds held)) (fair .only c (holds held))
@@ -98,7 +109,7 @@ module _ (s : List ℕ) (ok : isAccepted (sheetTest s) ≡ true) (owners : ℕ �
   record Going (now : Progress) : Type 0 where
     long : length (now .held) ≡ places
     runs : Runs s (heldFirst s) (now .slots)
-    after : heldAfter s (heldFirst s) (now .slots) ≡ now .held
+    after : heldAfter (parentOf s) (heldFirst s) (now .slots) ≡ now .held
     fewer : length (now .slots) + left (now .held) ≤ hops s
     shorter : length (slotBytes (now .slots)) + 2 * left (now .held) ≤ 2 * hops s
 
@@ -113,104 +124,106 @@ module _ (s : List ℕ) (ok : isAccepted (sheetTest s) ≡ true) (owners : ℕ �
         shorter = omega (arith, first-left s ok);
       }
 
-  going-next : (slot : List ℕ) (now : Progress) → Going now → Legal s (now .held) slot → Going (recorded (parentOf s) slot now)
+  going-next : (slot : List ℕ) (now : Progress) → Going now → Legal s (now .held) slot → 1 ≤ length slot → Going (recorded (parentOf s) (slot ∷ []) now)
   unfolding recorded Runs heldAfter
-  going-next [] now going legal = going
-  going-next (v ∷ slot) now going legal =
+  going-next slot now going legal sends =
       record {
-        long = length-moved (parentOf s) (v ∷ slot) (now .held) ∙ going .long;
+        long = length-moved (parentOf s) slot (now .held) ∙ going .long;
         runs =
-            runs-append s (heldFirst s) (now .slots) ((v ∷ slot) ∷ []) (going .runs)
-            (subst (λ (held : List ℕ). Legal s held (v ∷ slot)) (sym (going .after)) legal, tt);
+            runs-append s (heldFirst s) (now .slots) (slot ∷ []) (going .runs)
+            (subst (λ (held : List ℕ). Legal s held slot) (sym (going .after)) legal, tt);
         after =
-            held-append s (heldFirst s) (now .slots) ((v ∷ slot) ∷ []) ∙ ap (λ (held : List ℕ). moved (parentOf s) (v ∷ slot) held) (going .after);
+            held-append (parentOf s) (heldFirst s) (now .slots) (slot ∷ []) ∙ ap (λ (held : List ℕ). moved (parentOf s) slot held) (going .after);
         fewer =
             omega (
               arith,
               going .fewer,
-              length-append (now .slots) ((v ∷ slot) ∷ []),
-              legal-left s ok (now .held) (v ∷ slot) legal (going .long),
+              length-append (now .slots) (slot ∷ []),
+              legal-left s ok (now .held) slot legal (going .long),
             );
         shorter =
             omega (
               arith,
               going .shorter,
-              ap length (slot-bytes-append (now .slots) ((v ∷ slot) ∷ [])) ∙ length-append (slotBytes (now .slots)) (slotBytes ((v ∷ slot) ∷ [])),
-              one-slot (v ∷ slot),
-              legal-left s ok (now .held) (v ∷ slot) legal (going .long),
+              ap length (slot-bytes-append (now .slots) (slot ∷ [])) ∙ length-append (slotBytes (now .slots)) (slotBytes (slot ∷ [])),
+              one-slot slot,
+              legal-left s ok (now .held) slot legal (going .long),
             );
       }
 
-  -- a slot that is made takes hops away
-  left-next : (slot : List ℕ) (now : Progress) → Going now → Legal s (now .held) slot
-      → left (recorded (parentOf s) slot now .held) + length slot ≡ left (now .held)
-  unfolding recorded
-  left-next [] now going legal = omega arith
-  left-next (v ∷ slot) now going legal = legal-left s ok (now .held) (v ∷ slot) legal (going .long)
-
-  none-recorded : (slot : List ℕ) (now : Progress) → length slot ≡ 0 → recorded (parentOf s) slot now ≡ now
-  unfolding recorded
-  none-recorded [] now e = refl
-  none-recorded (v ∷ slot) now e = absurd (omega arith)
-
   -- one turn of a round
-  abbrev slotAt : ℕ → Progress → List ℕ
-  slotAt k now = slotFor way (k + 1) (holds (now .held))
+  unfoldable next : ℕ → Progress → Progress
+  next k now = recorded (parentOf s) (turn way (k + 1) (now .held)) now
 
-  abbrev turn : ℕ → Progress → Progress
-  turn k now = recorded (parentOf s) (slotAt k now) now
+  -- with no owner nothing happens; with an owner the slot is recorded
+  next-none : (k : ℕ) (now : Progress) → owned (k + 1) (now .held) ≡ false → next k now ≡ now
+  unfolding next turnOf
+  next-none k now e =
+      ap (λ (b : Bool). recorded (parentOf s) (cond b (slotFor (k + 1) (now .held) ∷ []) []) now) e ∙ recorded-none (parentOf s) now
 
-  going-turn : (k : ℕ) (now : Progress) → Going now → Going (turn k now)
-  going-turn k now going = going-next (slotAt k now) now going (slot-legal (k + 1) (now .held))
+  next-one : (k : ℕ) (now : Progress) → owned (k + 1) (now .held) ≡ true → next k now ≡ recorded (parentOf s) (slotFor (k + 1) (now .held) ∷ []) now
+  unfolding next turnOf
+  next-one k now e = ap (λ (b : Bool). recorded (parentOf s) (cond b (slotFor (k + 1) (now .held) ∷ []) []) now) e
+
+  sends : (c : ℕ) (held : List ℕ) → owned c held ≡ true → 1 ≤ length (slotFor c held)
+  sends c held e = owned-slot (probeCount s) (entry (conflictTable s)) (holds held) (owning c held) e
+
+  going-turn : (k : ℕ) (now : Progress) → Going now → Going (next k now)
+  going-turn k now going =
+      ⊎-elim
+      (λ e. subst Going (sym (next-one k now e)) (going-next (slotFor (k + 1) (now .held)) now going (slot-legal (k + 1) (now .held)) (sends (k + 1) (now .held) e)))
+      (λ e. subst Going (sym (next-none k now e)) going)
+      (true-or-false (owned (k + 1) (now .held)))
+
+  -- a slot that is made takes hops away
+  left-one : (k : ℕ) (now : Progress) → Going now → owned (k + 1) (now .held) ≡ true → left (next k now .held) < left (now .held)
+  unfolding recorded heldAfter
+  left-one k now going e =
+      omega (
+        arith,
+        ap (λ (then : Progress). left (then .held)) (next-one k now e),
+        legal-left s ok (now .held) (slotFor (k + 1) (now .held)) (slot-legal (k + 1) (now .held)) (going .long),
+        sends (k + 1) (now .held) e,
+      )
+
+  left-next : (k : ℕ) (now : Progress) → Going now → left (next k now .held) ≤ left (now .held)
+  left-next k now going =
+      ⊎-elim (λ e. omega (arith, left-one k now going e)) (λ e. omega (arith, ap (λ (then : Progress). left (then .held)) (next-none k now e)))
+      (true-or-false (owned (k + 1) (now .held)))
 
   module _ (now : Progress) (going : Going now) where
-    going-turns : (n : ℕ) → Going (forEach n turn now)
-    going-turns n = forEach-keeps Going n turn now going (λ k _ was h. going-turn k was h)
+    going-turns : (n : ℕ) → Going (forEach n next now)
+    going-turns n = forEach-keeps Going n next now going (λ k _ was h. going-turn k was h)
 
     going-round : Going (round way now)
-    unfolding round
+    unfolding round next
     going-round = going-turns colours
 
     -- as far as turn n of a round hops have been taken away, or nothing has happened and the colour c that has an owner is still to come
-    module _ (c : ℕ) (owned : someProbe (probeCount s) (λ u. getD (owners (c + 1) (holds (now .held))) u false) ≡ true) where
-      falls : (n : ℕ) → (left (forEach n turn now .held) < left (now .held)) ⊎ ((forEach n turn now ≡ now) × (n ≤ c))
+    module _ (c : ℕ) (has : owned (c + 1) (now .held) ≡ true) where
+      falls : (n : ℕ) → (left (forEach n next now .held) < left (now .held)) ⊎ ((forEach n next now ≡ now) × (n ≤ c))
       unfolding forEach
       falls zero = inr (refl, omega arith)
       falls (suc n) =
           ⊎-elim
-          (λ less. inl (omega (arith, left-next (slotAt n was) was (going-turns n) (slot-legal (n + 1) (was .held)), less)))
-          (λ still. made still (length (slotAt n was)) refl)
+          (λ less. inl (omega (arith, left-next n was (going-turns n), less)))
+          (λ still. ⊎-elim (λ made. inl (omega (arith, left-one n was (going-turns n) made, ap (λ (then : Progress). left (then .held)) (still .0)))) (none still)
+          (true-or-false (owned (n + 1) (was .held))))
           (falls n)
         where
           was : Progress
-          was = forEach n turn now
+          was = forEach n next now
 
-          made : (was ≡ now) × (n ≤ c) → (m : ℕ) → length (slotAt n was) ≡ m
-              → (left (turn n was .held) < left (now .held)) ⊎ ((turn n was ≡ now) × (suc n ≤ c))
-          made still (suc m) e =
-              inl (
-              omega (
-                arith,
-                left-next (slotAt n was) was (going-turns n) (slot-legal (n + 1) (was .held)),
-                ap (λ (then : Progress). left (then .held)) (still .0),
-              ))
-          made still zero e = inr (
-            none-recorded (slotAt n was) was e ∙ still .0,
-            ⊎-elim (λ (l : n < c). l)
-                (λ (l : n ≡ c).
-                absurd
-                (omega (
-                  arith,
-                  e,
-                  ap₂ (λ (k : ℕ) (then : Progress). length (slotAt k then)) l (still .0),
-                  owned-slot (probeCount s) (entry (conflictTable s)) (holds (now .held)) (owners (c + 1) (holds (now .held))) (omega (arith, few))
-                      (fair .long (c + 1) (holds (now .held))) owned,
-                )))
+          none : (was ≡ now) × (n ≤ c) → owned (n + 1) (was .held) ≡ false
+              → (left (next n was .held) < left (now .held)) ⊎ ((next n was ≡ now) × (suc n ≤ c))
+          none still e = inr (
+            next-none n was e ∙ still .0,
+            ⊎-elim (λ (l : n < c). l) (λ (l : n ≡ c). not-both has (sym (ap₂ (λ (k : ℕ) (then : Progress). owned (k + 1) (then .held)) l (still .0)) ∙ e))
                 (below-or-last n c (omega (arith, still .1))),
           )
 
       round-falls : c < colours → left (round way now .held) < left (now .held)
-      unfolding round
+      unfolding round next
       round-falls h = ⊎-elim (λ less. less) (λ still. absurd (omega (arith, still .1))) (falls colours)
 
   -- after n rounds nothing is outside, or n hops are made

@@ -1,17 +1,15 @@
 -- A slot's senders: in rising number, and each of them may send. By recursion over the probes, and by what each turn of joining keeps.
-use mathlib.Core.Path.{_≡_, refl, sym, ap, _∙_, subst}
+use mathlib.Core.Path.{_≡_, refl, sym, _∙_, subst}
 use mathlib.Core.Bool.{Bool, true, false, cond, not, _&&_}
 use mathlib.Core.List.{List, [], _∷_, _++_}
 use mathlib.Core.Logic.{_⊎_, _≢_, ⊎-elim}
 use Prim.Native.Nat.{ℕ, zero, suc, _+_, _≤_, _<_}
 use native.Mathlib.Omega.{arith}
-use native.Mathlib.Decide.{decLt}
-use lib.ListN.{length, getD, set, List·getD-eq-default}
+use lib.ListN.{getD, set}
 use lib.Seq.{getD-set-other}
-use lib.Dec.{eqb}
-use Rattle.meaning.specs.Words.{tab, places, probesThat, eachProbe, someProbe}
-use Rattle.meaning.specs.Rounds.{joins, joined, clashes, senders, slotOf, ownersByProbe, ownersByLevel}
-use Rattle.laws.proofs.Turns.{forEach-keeps, getD-tab, length-tab, same-or-other}
+use Rattle.meaning.specs.Words.{probesThat}
+use Rattle.meaning.specs.Rounds.{joins, joined, clashes, slotOf}
+use Rattle.laws.proofs.Turns.{forEach-keeps, same-or-other}
 use Rattle.laws.proofs.Moving.{Rising, Each}
 
 pub true-or-false : (b : Bool) → (b ≡ true) ⊎ (b ≡ false)
@@ -89,18 +87,10 @@ only-joined p relation may chosen only =
 pub each-slot : (p : ℕ) (relation : ℕ → ℕ → Bool) (may : ℕ → Bool) (owners : List Bool) → Only may owners
     → Each (λ v. (may v ≡ true) × (2 ≤ v) × (v < p + 2)) (slotOf p relation may owners)
 unfolding slotOf Each
-each-slot p relation may owners only = go (someProbe p (λ v. getD owners v false))
-  where
-    go : (b : Bool) → Each (λ v. (may v ≡ true) × (2 ≤ v) × (v < p + 2)) (cond b (senders p (joined p relation may owners)) [])
-    go false = tt
-    go true =
-        each-probe (λ v. (may v ≡ true) × (2 ≤ v) × (v < p + 2)) p (λ v. getD (joined p relation may owners) v false)
-        (λ k hk e. (only-joined p relation may owners only (k + 2) e, omega arith, omega arith))
+each-slot p relation may owners only =
+    each-probe (λ v. (may v ≡ true) × (2 ≤ v) × (v < p + 2)) p (λ v. getD (joined p relation may owners) v false)
+    (λ k hk e. (only-joined p relation may owners only (k + 2) e, omega arith, omega arith))
 
 pub rising-slot : (p : ℕ) (relation : ℕ → ℕ → Bool) (may : ℕ → Bool) (owners : List Bool) → Rising 1 (slotOf p relation may owners)
 unfolding slotOf Rising
-rising-slot p relation may owners = go (someProbe p (λ v. getD owners v false))
-  where
-    go : (b : Bool) → Rising 1 (cond b (senders p (joined p relation may owners)) [])
-    go false = tt
-    go true = rising-probes p (λ v. getD (joined p relation may owners) v false)
+rising-slot p relation may owners = rising-probes p (λ v. getD (joined p relation may owners) v false)

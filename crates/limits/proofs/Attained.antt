@@ -2,9 +2,8 @@
 -- the upper limits can be one less, and the lower one not one more.
 use mathlib.Core.Bool.{Bool, _&&_}
 use mathlib.Core.List.{List, [], _∷_}
-use Prim.Native.Nat.{ℕ, _-_, _*_}
+use Prim.Native.Nat.{ℕ, _*_}
 use lib.Dec.{T, eqb}
-use Rattle.meaning.specs.declared.Outcome.{Outcome}
 use Rattle.meaning.specs.declared.Planned.{Planned}
 use Rattle.meaning.specs.declared.Verdict.{Verdict}
 use Rattle.meaning.specs.Words.{forEach, some, sum, most, tab, probesThat}
@@ -13,8 +12,8 @@ use Rattle.meaning.specs.Sheet.{parentOf, packetsOf, levelOf, hops, allPackets,
 use Rattle.meaning.specs.Plan.{slotBytes, planBytes}
 use Rattle.meaning.specs.Conflict.{disturb, conflict, conflictTable}
 use Rattle.meaning.specs.Colour.{smallestFree, nextOf, colouredBy, probeColours, levelsConflict, levels, depth, levelColours}
-use Rattle.meaning.specs.Rounds.{joined, ownersByProbe, ownersByLevel, slotOf, moved, recorded, round, rounds, byProbe, byLevel, slotsOf}
-use Rattle.meaning.specs.Answer.{isAccepted, _then_, inOrder, probeTest, walkTest, pairTest, countsTest, sheetTest, planTest, planAnswer}
+use Rattle.meaning.specs.Rounds.{joined, ownersByProbe, ownersByLevel, slotOf, turnOf, moved, heldAfter, recorded, round, rounds, byProbe, byLevel, slotsOf}
+use Rattle.meaning.specs.Answer.{isAccepted, _then_, inOrder, probeTest, walkTest, pairTest, countsTest, sheetTest, planTest, planMade}
 use Rattle.meaning.specs.Judge.{slotTest, slotJudged, slotsJudged, planJudgedBy, planJudged, judge}
 
 abbrev pub lone : List ℕ
@@ -32,10 +31,10 @@ by-level-tight r = isAccepted (r .outcome) && eqb (r .slots) (r .colours * allPa
 abbrev pub least-tight : Verdict → Bool
 least-tight r = isAccepted (r .outcome) && eqb (r .slots) (allPackets lone)
 
-pub attained : T (by-probe-tight (planAnswer lone (byProbe lone) 32) && (by-level-tight (planAnswer lone (byLevel lone) 32) && least-tight (judge lone (planBytes (slotsOf lone (byProbe lone))))))
+pub attained : T (by-probe-tight (planMade byProbe lone 32 .answer) && (by-level-tight (planMade byLevel lone 32 .answer) && least-tight (judge lone (planBytes (slotsOf lone (byProbe lone))))))
 unfolding forEach some sum most tab probesThat reaches climb climbed parentOf packetsOf levelOf hops allPackets heaviest interfere slotBytes
     disturb conflict conflictTable smallestFree nextOf colouredBy probeColours levelsConflict levels depth levelColours
-    joined ownersByProbe ownersByLevel slotOf moved recorded round rounds byProbe byLevel slotsOf
-    _then_ inOrder probeTest walkTest pairTest countsTest sheetTest planTest planAnswer
+    joined ownersByProbe ownersByLevel slotOf turnOf moved heldAfter recorded round rounds byProbe byLevel slotsOf
+    _then_ inOrder probeTest walkTest pairTest countsTest sheetTest planTest planMade
     slotTest slotJudged slotsJudged planJudgedBy planJudged judge
 attained = tt

@@ -11,12 +11,13 @@ use lib.ListN.{length, take}
 use lib.Seq.{take-all, getD-take, length-take-le}
 use Rattle.meaning.specs.declared.Outcome.{Outcome}
 use Rattle.meaning.specs.declared.Planned.{Planned}
-use Rattle.meaning.specs.Sheet.{decidingSheet, twoAt, probeCount, pairCountAt, pairCount, sheetLength, hops}
-use Rattle.meaning.specs.Plan.{anyPlan, planBytes, roomFor}
-use Rattle.meaning.specs.Rounds.{Way, byProbe, byLevel, slotsOf}
-use Rattle.meaning.specs.Answer.{isAccepted, given, _then_, countsTest, sheetTest, planTest, planAnswer, refusedPlan}
+use Rattle.meaning.specs.Sheet.{decidingSheet, twoAt, probeCount, pairCountAt, pairCount, sheetLength}
+use Rattle.meaning.specs.Plan.{anyPlan}
+use Rattle.meaning.specs.Rounds.{Way, byProbe, slotsOf}
+use Rattle.meaning.specs.Answer.{isAccepted, given, _then_, countsTest, sheetTest, planTest, refusedPlan, PlanMade, planMade}
 use Rattle.meaning.specs.Judge.{planJudged, judge}
-use Rattle.meaning.specs.Lister.{firstLine, slotLines, refusalLine, sheetListed, listing}
+use Rattle.meaning.specs.Lister.{firstLine, slotLines, refusalLine, list, listing}
+use Rattle.laws.proofs.PlanMade.{tested, nothing, makes}
 use Rattle.laws.proofs.Accepted.{then-stays, pairs-of-few}
 
 -- the tests of the counts, of what each asks
@@ -125,18 +126,20 @@ module _ (s : List ℕ) (long : decidingSheet ≤ length s) where
 
 -- a refused sheet: the planner, the judge and the lister answer by the sheet's test alone
 module _ (s : List ℕ) (refused : isAccepted (sheetTest s) ≡ false) where
-  plan-refused : (way : Way) (room : ℕ) → planAnswer s way room ≡ refusedPlan (sheetTest s)
-  unfolding planAnswer planTest
-  plan-refused way room =
-      let stays = then-stays (sheetTest s) (given 9 0 (ltb room (roomFor (hops s))) then given 10 0 (ltb 65535 (length (slotsOf s way)))) refused in
-      ap (λ (o : Outcome). cond (isAccepted o) (record { outcome = o; colours = way .colours; slots = length (slotsOf s way); bytes = length (planBytes (slotsOf s way)) }) (refusedPlan o)) stays
-      ∙ ap (λ (b : Bool). cond b (record { outcome = sheetTest s; colours = way .colours; slots = length (slotsOf s way); bytes = length (planBytes (slotsOf s way)) }) (refusedPlan (sheetTest s))) refused
+  plan-refused : (by : List ℕ → Way) (room : ℕ) → planMade by s room ≡ nothing by s room (sheetTest s)
+  unfolding planTest
+  plan-refused by room =
+      let stays : tested by s room ≡ sheetTest s = then-stays (sheetTest s) _ refused in
+      makes by s room false (ap isAccepted stays ∙ refused) ∙ ap (nothing by s room) stays
 
-  text-refused : sheetListed s ≡ refusalLine (sheetTest s)
-  unfolding sheetListed
+  text-refused : list s ≡ refusalLine (sheetTest s)
+  unfolding list
   text-refused =
-      ap (λ (p : Planned). cond (isAccepted (p .outcome)) (firstLine s p ++ slotLines 0 (slotsOf s (byProbe s))) (refusalLine (p .outcome))) (plan-refused (byProbe s) anyPlan)
-      ∙ ap (λ (b : Bool). cond b (firstLine s (refusedPlan (sheetTest s)) ++ slotLines 0 (slotsOf s (byProbe s))) (refusalLine (sheetTest s))) refused
+      ap (λ (made : PlanMade). line (isAccepted (made .answer .outcome)) (made .answer)) (plan-refused byProbe anyPlan)
+      ∙ ap (λ (b : Bool). line b (refusedPlan (sheetTest s))) refused
+    where
+      line : Bool → Planned → List ℕ
+      line b p = cond b (firstLine s p ++ slotLines 0 (slotsOf s (byProbe s))) (refusalLine (p .outcome))
 
   pub verdict-refused : (plan : List ℕ) → judge s plan ≡ record { outcome = sheetTest s; slots = 0 }
   unfolding judge
@@ -158,14 +161,11 @@ decided {A} answer of refused s = go (leb (length s) decidingSheet) refl
         let no = is-refused s long in
         refused (take decidingSheet s) (ap isAccepted (same-test s long) ∙ no) ∙ ap of (same-test s long) ∙ sym (refused s no)
 
-pub by-probe-decided : (s : List ℕ) (room : ℕ) → planAnswer (take decidingSheet s) (byProbe (take decidingSheet s)) room ≡ planAnswer s (byProbe s) room
-by-probe-decided s room = decided (λ t. planAnswer t (byProbe t) room) refusedPlan (λ t no. plan-refused t no (byProbe t) room) s
-
-pub by-level-decided : (s : List ℕ) (room : ℕ) → planAnswer (take decidingSheet s) (byLevel (take decidingSheet s)) room ≡ planAnswer s (byLevel s) room
-by-level-decided s room = decided (λ t. planAnswer t (byLevel t) room) refusedPlan (λ t no. plan-refused t no (byLevel t) room) s
+pub plan-made-decided : (by : List ℕ → Way) (s : List ℕ) (room : ℕ) → planMade by (take decidingSheet s) room ≡ planMade by s room
+plan-made-decided by s room = decided (λ t. planMade by t room) (λ o. nothing by s room o) (λ t no. plan-refused t no by room) s
 
 pub verdict-decided : (s plan : List ℕ) → judge (take decidingSheet s) plan ≡ judge s plan
 verdict-decided s plan = decided (λ t. judge t plan) (λ o. record { outcome = o; slots = 0 }) (λ t no. verdict-refused t no plan) s
 
-pub text-decided : (s : List ℕ) → listing s ≡ sheetListed s
-text-decided s = decided sheetListed refusalLine text-refused s
+pub text-decided : (s : List ℕ) → listing s ≡ list s
+text-decided s = decided list refusalLine text-refused s

@@ -3,28 +3,28 @@
 use mathlib.Core.Path.{_≡_, refl, sym, ap, ap₂, _∙_}
 use mathlib.Core.Bool.{Bool, true, false, cond}
 use mathlib.Core.List.{List, [], _∷_}
+use mathlib.Core.Logic.{⊎-elim}
 use Prim.Native.Nat.{ℕ, zero, suc, _+_, _*_, _≤_, _<_}
 use native.Mathlib.Omega.{arith}
-use borrow.Author.Tests.{ltb-false, leb-true, leb-false, lt-ltb, le-ltb}
+use borrow.Author.Tests.{leb-true, leb-false, lt-ltb, le-ltb}
 use lib.Dec.{ltb, leb}
 use lib.ListN.{length, getD, take, drop, length-drop}
 use lib.Seq.{take-all, take-take, getD-take, length-take-le}
 use Rattle.meaning.specs.declared.Outcome.{Outcome}
 use Rattle.meaning.specs.Words.{forEach, places}
-use Rattle.meaning.specs.Plan.{decidingPlan}
+use Rattle.meaning.specs.Plan.{decidingPlan, nextAt, sendersAt}
 use Rattle.meaning.specs.Sheet.{twoAt, probeCount, parentOf, levelOf, hops}
 use Rattle.meaning.specs.Conflict.{entry, conflictTable}
 use Rattle.meaning.specs.Rounds.{outside, moved}
 use Rattle.meaning.specs.Legal.{heldFirst}
 use Rattle.meaning.specs.Answer.{accepted, isAccepted, given, _then_, sheetTest}
-use Rattle.meaning.specs.Judge.{Judging, nextAt, sendersAt, slotTest, slotJudged, slotsJudged, planJudgedBy, planJudged, judge}
+use Rattle.meaning.specs.Judge.{Judging, slotTest, slotJudged, slotsJudged, planJudgedBy, planJudged, judge}
 use Rattle.laws.proofs.Turns.{length-tab}
 use Rattle.laws.proofs.Moving.{weigh-moved, weigh-up, length-moved}
 use Rattle.laws.proofs.Running.{each-at, at-each}
-use Rattle.laws.proofs.Accepted.{then-accepted, given-accepted}
+use Rattle.laws.proofs.Passed.{Passed, passed, Passes, Refused, turn}
 use Rattle.laws.proofs.Grounds.{few-probes, parent-node, level-up, hopsLeft, first-left}
 use Rattle.limits.proofs.Sums.{forEach-counts}
-use Rattle.limits.proofs.Passed.{Passed, passed}
 use Rattle.limits.proofs.Hops.{hops-limit}
 use Rattle.limits.proofs.Deciding.{verdict-refused}
 
@@ -70,33 +70,31 @@ module _ (s : List ℕ) (ok : isAccepted (sheetTest s) ≡ true) where
       )
 
   near-judged : (plan : List ℕ) (k : ℕ) (now : Judging) → Near k now → Near (suc k) (step plan (k + 1) now)
-  unfolding slotJudged
-  near-judged plan k now so = go (isAccepted outcome) refl
-    where
-      slot : List ℕ
-      slot = sendersAt plan (now .at)
-
-      outcome : Outcome
-      outcome =
-          given 11 (k + 1) (ltb (length plan) (nextAt plan (now .at)))
-          then slotTest (probeCount s) (entry (conflictTable s)) (now .held) (k + 1) slot
-
-      go : (b : Bool) → isAccepted outcome ≡ b
-          → Near (suc k)
-          (cond b (record { outcome = outcome; at = nextAt plan (now .at); held = moved (parentOf s) slot (now .held) })
-          (record { outcome = outcome; at = now .at; held = now .held }))
-      go true e =
-          let both = then-accepted _ _ e in
-          let within = ltb-false (length plan) (nextAt plan (now .at)) (given-accepted 11 (k + 1) _ refl (both .0)) in
-          let whole : length slot ≡ getD plan (now .at) 0 =
-          length-take-le (getD plan (now .at) 0) (drop (now .at + 1) plan) (rw (length-drop (now .at + 1) plan) (omega arith))
-          in
-          let pass = passed (probeCount s) (parentOf s) (entry (conflictTable s)) (now .held) slot (k + 1) (few-probes s ok) (parent-node s ok) (both .1) in
-          record {
-            long = length-moved (parentOf s) slot (now .held) ∙ so .long;
-            near = omega (arith, so .near, whole, slot-left (now .held) slot (so .long) pass);
-          }
-      go false e = record { long = so .long; near = omega (arith, so .near) }
+  near-judged plan k now so =
+      ⊎-elim
+      (λ (pass : Passes (probeCount s) (parentOf s) (entry (conflictTable s)) plan (k + 1) now).
+      let slot : List ℕ = sendersAt plan (now .at) in
+      let whole : length slot ≡ getD plan (now .at) 0 =
+      length-take-le (getD plan (now .at) 0) (drop (now .at + 1) plan) (rw (length-drop (now .at + 1) plan) (omega (arith, pass .within)))
+      in
+      let may =
+      passed (probeCount s) (parentOf s) (entry (conflictTable s)) (now .held) slot (k + 1) (few-probes s ok) (parent-node s ok) (pass .tested)
+      in
+      record {
+        long = ap length (pass .moves) ∙ length-moved (parentOf s) slot (now .held) ∙ so .long;
+        near =
+            omega (
+              arith,
+              so .near,
+              whole,
+              pass .next,
+              ap (hopsLeft s ok) (pass .moves),
+              slot-left (now .held) slot (so .long) may,
+            );
+      })
+      (λ (refuses : Refused (probeCount s) (parentOf s) (entry (conflictTable s)) plan (k + 1) now).
+      record { long = ap length (refuses .rests) ∙ so .long; near = omega (arith, so .near, refuses .stays, ap (hopsLeft s ok) (refuses .rests)) })
+      (turn (probeCount s) (parentOf s) (entry (conflictTable s)) plan (k + 1) now)
 
   near-all : (plan : List ℕ) (k : ℕ) → Near k (judged plan k)
   unfolding slotsJudged

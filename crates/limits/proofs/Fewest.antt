@@ -1,31 +1,30 @@
 -- No plan that the judge passes has fewer slots than the sheet has packets: in a slot at most one probe next to the gateway sends, since two
 -- children of one parent conflict, so that what has come home is at most the slots judged; in the end that is all.
-use mathlib.Core.Path.{_≡_, refl, sym, ap, _∙_}
+use mathlib.Core.Path.{_≡_, refl, sym, ap, _∙_, subst}
 use mathlib.Core.Bool.{Bool, true, false, cond}
 use mathlib.Core.List.{List, [], _∷_}
 use mathlib.Core.Logic.{_⊎_, inl, inr, _≢_, ⊎-elim}
 use Prim.Native.Nat.{ℕ, suc, _+_, _-_, _*_, _≤_, _<_}
 use native.Mathlib.Omega.{arith}
-use lib.Dec.{ltb}
 use lib.ListN.{length, getD}
 use borrow.Author.Tests.{ltb-false}
-use Rattle.meaning.specs.declared.Outcome.{Outcome}
 use Rattle.meaning.specs.Words.{tab, places}
 use Rattle.meaning.specs.Yard.{isProbe}
 use Rattle.meaning.specs.Sheet.{twoAt, probeCount, parentOf, packetsOf, allPackets}
-use Rattle.meaning.specs.Conflict.{conflict, entry, conflictTable}
+use Rattle.meaning.specs.Conflict.{entry, conflictTable}
+use Rattle.meaning.specs.Plan.{sendersAt}
 use Rattle.meaning.specs.Rounds.{holds, outside, moved}
-use Rattle.meaning.specs.Answer.{accepted, isAccepted, given, _then_}
-use Rattle.meaning.specs.Judge.{Judging, nextAt, sendersAt, slotTest, slotJudged, slotsJudged, planJudgedBy, planJudged, judge}
+use Rattle.meaning.specs.Answer.{accepted, isAccepted}
+use Rattle.meaning.specs.Judge.{Judging, slotJudged, slotsJudged, planJudgedBy, planJudged, judge}
 use Rattle.laws.proofs.Turns.{some-none, sum-same, getD-tab, length-tab, same-or-other}
 use Rattle.laws.proofs.Walk.{not-both, probe-yes}
 use Rattle.laws.proofs.Moving.{Rising, Each, weigh, weighAll, weigh-moved, kept, length-moved}
 use Rattle.laws.proofs.Slots.{true-or-false}
 use Rattle.laws.proofs.Accepted.{then-accepted, given-accepted, packets-outside}
 use Rattle.laws.proofs.Grounds.{packets-first}
+use Rattle.laws.proofs.Passed.{Apart, Passed, passed, Passes, Refused, turn}
 use Rattle.limits.proofs.Sums.{forEach-counts, sum-zero, probe-at}
-use Rattle.limits.proofs.Passed.{Apart, Passed, passed}
-use Rattle.limits.proofs.Yard as Yard
+use Rattle.limits.proofs.AcceptedYard as Yard
 
 -- 1 where v is no probe: what counts a packet that is home
 abbrev home : ℕ → ℕ → ℕ
@@ -106,23 +105,15 @@ module _ (p : ℕ) (parent : ℕ → ℕ) (relation : ℕ → ℕ → Bool) (few
 
   homing-judged : (all k : ℕ) (plan : List ℕ) (now : Judging) → Homing all k (now .held)
       → Homing all (suc k) (slotJudged p parent relation plan (k + 1) now .held)
-  unfolding slotJudged
-  homing-judged all k plan now h = go (isAccepted outcome) refl
-    where
-      slot : List ℕ
-      slot = sendersAt plan (now .at)
-
-      outcome : Outcome
-      outcome = given 11 (k + 1) (ltb (length plan) (nextAt plan (now .at))) then slotTest p relation (now .held) (k + 1) slot
-
-      go : (b : Bool) → isAccepted outcome ≡ b → Homing all (suc k) ((
-          cond {A = Judging} b (record { outcome = outcome; at = nextAt plan (now .at); held = moved parent slot (now .held) })
-          (record { outcome = outcome; at = now .at; held = now .held })
-          ) .held)
-      go true e =
-          homing-slot all k (now .held) slot h
-          (passed p parent relation (now .held) slot (k + 1) few (λ v hv. omega (arith, inside v hv)) (then-accepted _ _ e .1))
-      go false e = homing-stays all k (now .held) h
+  homing-judged all k plan now h =
+      ⊎-elim
+      (λ (pass : Passes p parent relation plan (k + 1) now).
+      subst (λ (held : List ℕ). Homing all (suc k) held) (sym (pass .moves))
+      (homing-slot all k (now .held) (sendersAt plan (now .at)) h
+      (passed p parent relation (now .held) (sendersAt plan (now .at)) (k + 1) few (λ v hv. omega (arith, inside v hv)) (pass .tested))))
+      (λ (refuses : Refused p parent relation plan (k + 1) now).
+      subst (λ (held : List ℕ). Homing all (suc k) held) (sym (refuses .rests)) (homing-stays all k (now .held) h))
+      (turn p parent relation plan (k + 1) now)
 
   homing-all : (all : ℕ) (plan : List ℕ) (many : ℕ) (start : Judging) → Homing all 0 (start .held)
       → Homing all many (slotsJudged p parent relation plan many start .held)

@@ -17,9 +17,9 @@ use Rattle.laws.proofs.Turns.{sum-same, sum-least, sum-constant}
 use Rattle.laws.proofs.Walk.{probe-yes}
 use Rattle.laws.proofs.Accepted.{accepted-yard}
 use Rattle.laws.proofs.Grounds.{few-probes, level-most}
-use Rattle.laws.proofs.Levels.{level-deep, depth-most}
+use Rattle.laws.proofs.Levels.{level-deep}
 use Rattle.limits.proofs.Sums.{sum-zero, sum-swap, sum-times}
-use Rattle.limits.proofs.Line.{fromLine, line-parts, line-some, from-first}
+use Rattle.limits.proofs.LevelLine.{fromLine, line-parts, line-some, from-first}
 
 -- a level is the number of levels below it
 abbrev under : ℕ → ℕ → ℕ

@@ -17,7 +17,7 @@ use Rattle.meaning.specs.Yard.{isProbe}
 use Rattle.meaning.specs.Sheet.{probeCount, parentOf, packetsOf, levelOf, hops, allPackets}
 use Rattle.meaning.specs.Conflict.{entry, conflictTable}
 use Rattle.meaning.specs.Colour.{coloursUsed, depth, levelColours}
-use Rattle.meaning.specs.Rounds.{Progress, Way, holds, outside, clashes, joins, joined, ownersByLevel, slotFor, rounds, byLevel, slotsOf}
+use Rattle.meaning.specs.Rounds.{Progress, holds, outside, clashes, joins, joined, ownersByLevel, turn as turnSlots, byLevel, slotsOf}
 use Rattle.meaning.specs.Answer.{isAccepted, sheetTest}
 use Rattle.laws.proofs.Turns.{forEach-one, some-none, some-where}
 use Rattle.laws.proofs.Walk.{probe-least, probe-most, probe-yes}
@@ -25,14 +25,14 @@ use Rattle.laws.proofs.Slots.{Only, only-joined, and-left, and-right, never, tr
 use Rattle.laws.proofs.Joining.{nobody-chosen, joined-long, joined-keep}
 use Rattle.laws.proofs.Grounds.{level-least}
 use Rattle.laws.proofs.Levels.{most-holds, table-conflicts, level-deep, depth-most, levels-proper}
-use Rattle.limits.specs.Sent.{inflow, sentIn, sent}
+use Rattle.limits.specs.Sent.{inflow, sent}
 use Rattle.limits.proofs.Sums.{zero-either, sum-zero, probe-at}
 use Rattle.limits.proofs.Served.{served, inflow-least, inflow-part}
 use Rattle.limits.proofs.Sending.{inflow-add, inflow-same}
-use Rattle.limits.proofs.Serving.{Kept, turn, after, more-sent, turn-sent, owner-sends, serves, slots-most}
-use Rattle.limits.proofs.Line as Line
+use Rattle.limits.proofs.Serving.{Owning, Kept, way, turn, after, more-sent, turn-sent, owner-sends, serves, slots-most}
+use Rattle.limits.proofs.LevelLine as Line
 use Rattle.limits.proofs.OneLevel.{one-level}
-use Rattle.limits.proofs.Yard as Yard
+use Rattle.limits.proofs.AcceptedYard as Yard
 
 abbrev nobody : List Bool
 nobody = replicate places false
@@ -68,32 +68,24 @@ module _ (relation : ℕ → ℕ → Bool) (may : ℕ → Bool) where
   unfolding chosen
   only-chosen p = only-joined p relation may nobody (λ u h. never (sym (nobody-chosen 65 u) ∙ h))
 
--- the way by level, by its parts
-abbrev road : List ℕ → Way
-road s =
-    record {
-      probes = probeCount s;
-      parent = parentOf s;
-      relation = entry (conflictTable s);
-      owners = ownersByLevel (probeCount s) (entry (conflictTable s)) (λ v. getD (levelColours s) (levelOf s v) 0);
-      colours = coloursUsed (levelColours s);
-    }
-
 module _ (s : List ℕ) (ok : isAccepted (sheetTest s) ≡ true) where
   abbrev colour : ℕ → ℕ
   colour v = getD (levelColours s) (levelOf s v) 0
 
-  only : (c : ℕ) (may : ℕ → Bool) → Only may (road s .owners c may)
+  abbrev owners : ℕ → (ℕ → Bool) → List Bool
+  owners = ownersByLevel (probeCount s) (entry (conflictTable s)) colour
+
+  only : (c : ℕ) (may : ℕ → Bool) → Only may (owners c may)
   unfolding ownersByLevel chosen
   only c may v e = and-right (eqb (colour v) c) (may v) (only-chosen (entry (conflictTable s)) (λ u. eqb (colour u) c && may u) (probeCount s) v e)
 
-  length-owners : (c : ℕ) (may : ℕ → Bool) → length (road s .owners c may) ≡ places
-  unfolding ownersByLevel chosen
-  length-owners c may = joined-long (entry (conflictTable s)) (λ u. eqb (colour u) c && may u) (probeCount s) nobody
+  -- the way by level, by its owners
+  abbrev by : Owning
+  by = record { owners = owners; colours = coloursUsed (levelColours s); only = only }
 
   -- in its colour's turn a level that holds a packet owns the slot
   level-owns : (c : ℕ) (may : ℕ → Bool) (v : ℕ) → isProbe (probeCount s) v ≡ true → colour v ≡ c → may v ≡ true
-      → (x : ℕ) × (isProbe (probeCount s) x ≡ true) × (levelOf s x ≡ levelOf s v) × (getD (road s .owners c may) x false ≡ true)
+      → (x : ℕ) × (isProbe (probeCount s) x ≡ true) × (levelOf s x ≡ levelOf s v) × (getD (owners c may) x false ≡ true)
   unfolding ownersByLevel chosen
   level-owns c may v h its m =
       let at = probe-at (probeCount s) v h in
@@ -116,15 +108,6 @@ module _ (s : List ℕ) (ok : isAccepted (sheetTest s) ≡ true) where
         found .2,
       ))
       (found .3)
-
-  abbrev Held : Progress → Type 0
-  Held now = Kept (road s) (packetsOf s) (Yard.few s ok) (Yard.inside s ok) only now
-
-  abbrev turned : ℕ → Progress → Progress
-  turned c now = turn (road s) (packetsOf s) (Yard.few s ok) (Yard.inside s ok) only c now
-
-  abbrev gone : ℕ → Progress
-  gone r = after (road s) (packetsOf s) (Yard.few s ok) (Yard.inside s ok) only r
 
   -- what stands at a place of the line of levels
   online : (ℕ → ℕ) → ℕ → ℕ
@@ -201,8 +184,8 @@ module _ (s : List ℕ) (ok : isAccepted (sheetTest s) ≡ true) where
         go v probe true e any = (v, probe, eqb-true (levelOf s v + 1) at e, any)
         go v probe false e any = absurd (omega arith)
 
-    owes : (now : Progress) → Held now → 1 ≤ online (λ v. getD (now .held) v 0) at
-        → online (sent (now .slots)) at + 1 ≤ online (sent (turned (its - 1 + 1) now .slots)) at
+    owes : (now : Progress) → Kept s ok by now → 1 ≤ online (λ v. getD (now .held) v 0) at
+        → online (sent (now .slots)) at + 1 ≤ online (sent (turn s ok by (its - 1 + 1) now .slots)) at
     unfolding online its
     owes now kept any =
         let c : ℕ = its - 1 + 1 in
@@ -214,23 +197,22 @@ module _ (s : List ℕ) (ok : isAccepted (sheetTest s) ≡ true) where
         let owner = level-owns c (holds (now .held)) v (found .1) here may in
         let x = owner .0 in
         let place = probe-at (probeCount s) x (owner .1) in
-        let slot : List ℕ = slotFor (road s) c (holds (now .held)) in
-        let sends : 1 ≤ sentIn slot x =
-        owner-sends (probeCount s) (entry (conflictTable s)) (holds (now .held)) (road s .owners c (holds (now .held))) x
-        (Yard.few s ok) (length-owners c (holds (now .held))) (owner .1) (owner .3) in
+        let slots : List (List ℕ) = turnSlots (way s ok by) c (now .held) in
+        let sends : 1 ≤ sent slots x =
+        owner-sends (probeCount s) (entry (conflictTable s)) (holds (now .held)) (owners c (holds (now .held))) x (owner .1) (owner .3) in
         let stands : eqb (levelOf s (x - 2 + 2) + 1) at ≡ true =
         eq-eqb (levelOf s (x - 2 + 2) + 1) at (omega (arith, ap (levelOf s) (place .1), owner .2, found .2)) in
         omega (
           arith,
-          inflow-same (probeCount s) (λ u. levelOf s u + 1) (sent (turned c now .slots)) (λ u. sent (now .slots) u + sentIn slot u) at
-              (λ k _. turn-sent (road s) (packetsOf s) (Yard.few s ok) (Yard.inside s ok) only c now (k + 2)),
-          inflow-add (probeCount s) (λ u. levelOf s u + 1) (sent (now .slots)) (sentIn slot) at,
-          inflow-part (probeCount s) (λ u. levelOf s u + 1) (sentIn slot) at (x - 2) (place .0) stands,
-          ap (sentIn slot) (place .1),
+          inflow-same (probeCount s) (λ u. levelOf s u + 1) (sent (turn s ok by c now .slots)) (λ u. sent (now .slots) u + sent slots u) at
+              (λ k _. turn-sent s ok by c now (k + 2)),
+          inflow-add (probeCount s) (λ u. levelOf s u + 1) (sent (now .slots)) (sent slots) at,
+          inflow-part (probeCount s) (λ u. levelOf s u + 1) (sent slots) at (x - 2) (place .0) stands,
+          ap (sent slots) (place .1),
           sends,
         )
 
-    balanced : (now : Progress) → Held now
+    balanced : (now : Progress) → Kept s ok by now
         → online (λ v. getD (now .held) v 0) at + online (sent (now .slots)) at ≡ online (packetsOf s) at + along (sent (now .slots)) at
     unfolding online
     balanced now kept =
@@ -244,18 +226,18 @@ module _ (s : List ℕ) (ok : isAccepted (sheetTest s) ≡ true) where
           along-next (sent (now .slots)) at h,
         )
 
-    grows : (c : ℕ) (now : Progress) → (n : ℕ) → online (sent (now .slots)) n ≤ online (sent (turned c now .slots)) n
+    grows : (c : ℕ) (now : Progress) → (n : ℕ) → online (sent (now .slots)) n ≤ online (sent (turn s ok by c now .slots)) n
     unfolding online
     grows c now n =
-        inflow-least (probeCount s) (λ u. levelOf s u + 1) (sent (now .slots)) (sent (turned c now .slots)) n
-        (λ k _ _. more-sent (road s) (packetsOf s) (Yard.few s ok) (Yard.inside s ok) only c now (k + 2))
+        inflow-least (probeCount s) (λ u. levelOf s u + 1) (sent (now .slots)) (sent (turn s ok by c now .slots)) n
+        (λ k _ _. more-sent s ok by c now (k + 2))
 
-    along-grows : (c : ℕ) (now : Progress) → along (sent (now .slots)) at ≤ along (sent (turned c now .slots)) at
+    along-grows : (c : ℕ) (now : Progress) → along (sent (now .slots)) at ≤ along (sent (turn s ok by c now .slots)) at
     unfolding along
     along-grows c now =
-        inflow-least (depth s) (λ m. m - 1) (online (sent (now .slots))) (online (sent (turned c now .slots))) at (λ k _ _. grows c now (k + 2))
+        inflow-least (depth s) (λ m. m - 1) (online (sent (now .slots))) (online (sent (turn s ok by c now .slots))) at (λ k _ _. grows c now (k + 2))
 
-    empty : (now : Progress) → Held now → outside (probeCount s) (now .held) ≡ false → online (λ v. getD (now .held) v 0) at ≡ 0
+    empty : (now : Progress) → Kept s ok by now → outside (probeCount s) (now .held) ≡ false → online (λ v. getD (now .held) v 0) at ≡ 0
     unfolding online inflow
     empty now kept none =
         sum-zero (probeCount s) (λ k. cond (eqb (levelOf s (k + 2) + 1) at) (getD (now .held) (k + 2) 0) 0)
@@ -264,37 +246,37 @@ module _ (s : List ℕ) (ok : isAccepted (sheetTest s) ≡ true) where
         let nothing : getD (now .held) (k + 2) 0 ≡ 0 = omega arith in
         ap (λ (n : ℕ). cond (eqb (levelOf s (k + 2) + 1) at) n 0) nothing ∙ zero-either (eqb (levelOf s (k + 2) + 1) at))
 
-    serves-level : (r : ℕ) → min (online (sent (gone r .slots)) at + 1) (online (packetsOf s) at + along (sent (gone r .slots)) at)
-        ≤ online (sent (gone (suc r) .slots)) at
+    serves-level : (r : ℕ) → min (online (sent (after s ok by r .slots)) at + 1) (online (packetsOf s) at + along (sent (after s ok by r .slots)) at)
+        ≤ online (sent (after s ok by (suc r) .slots)) at
     serves-level r =
-        serves (road s) (packetsOf s) (Yard.few s ok) (Yard.inside s ok) only (online (packetsOf s) at) (λ now. online (λ v. getD (now .held) v 0) at)
+        serves s ok by (online (packetsOf s) at) (λ now. online (λ v. getD (now .held) v 0) at)
         (λ now. online (sent (now .slots)) at) (λ now. along (sent (now .slots)) at) balanced (λ c now. (grows c now at, along-grows c now)) empty
         (its - 1) (omega (arith, its-least, its-most)) owes r
 
   -- after as many rounds as there are packets, each level has sent all from there on
-  all-sent : (at : ℕ) → isProbe (depth s) at ≡ true → (r : ℕ) → min (beyond at) r ≤ online (sent (gone r .slots)) at
+  all-sent : (at : ℕ) → isProbe (depth s) at ≡ true → (r : ℕ) → min (beyond at) r ≤ online (sent (after s ok by r .slots)) at
   unfolding along
   all-sent at h r =
       omega (
         arith,
-        served (depth s) (λ m. m - 1) (online (packetsOf s)) beyond (λ _. 0) (λ i n. online (sent (gone i .slots)) n)
+        served (depth s) (λ m. m - 1) (online (packetsOf s)) beyond (λ _. 0) (λ i n. online (sent (after s ok by i .slots)) n)
             (λ n hn. omega (arith, beyond-parts n hn))
             (λ c _ up. omega (arith, some-there (c - 1) up))
             (λ i n hn. serves-level n hn i)
             r at h,
       )
 
-  all-home : sumProbes (probeCount s) (packetsOf s) ≤ inflow (probeCount s) (parentOf s) (sent (gone (allPackets s) .slots)) 1
+  all-home : sumProbes (probeCount s) (packetsOf s) ≤ inflow (probeCount s) (parentOf s) (sent (after s ok by (allPackets s) .slots)) 1
   unfolding allPackets
   all-home = go (decLe 1 (depth s))
     where
-      go : Dec (1 ≤ depth s) → sumProbes (probeCount s) (packetsOf s) ≤ inflow (probeCount s) (parentOf s) (sent (gone (allPackets s) .slots)) 1
+      go : Dec (1 ≤ depth s) → sumProbes (probeCount s) (packetsOf s) ≤ inflow (probeCount s) (parentOf s) (sent (after s ok by (allPackets s) .slots)) 1
       go (yes l) =
           omega (
             arith,
             all-sent 2 (probe-yes (depth s) 2 (omega arith) (omega arith)) (allPackets s),
             beyond-first,
-            online-first (sent (gone (allPackets s) .slots)),
+            online-first (sent (after s ok by (allPackets s) .slots)),
           )
       go (no l) =
           let none : sumProbes (probeCount s) (packetsOf s) ≡ 0 =
@@ -305,4 +287,4 @@ module _ (s : List ℕ) (ok : isAccepted (sheetTest s) ≡ true) where
   -- demand 3, by level
   pub by-level-most : length (slotsOf s (byLevel s)) ≤ coloursUsed (levelColours s) * allPackets s
   unfolding slotsOf byLevel
-  by-level-most = slots-most (road s) (packetsOf s) (Yard.few s ok) (Yard.inside s ok) only (allPackets s) (hops s) all-home
+  by-level-most = slots-most s ok by (allPackets s) (hops s) all-home

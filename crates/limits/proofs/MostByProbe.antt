@@ -14,7 +14,7 @@ use Rattle.meaning.specs.Yard.{isProbe, branchPackets}
 use Rattle.meaning.specs.Sheet.{probeCount, parentOf, packetsOf, hops, heaviest}
 use Rattle.meaning.specs.Conflict.{entry, conflictTable}
 use Rattle.meaning.specs.Colour.{coloursUsed, probeColours}
-use Rattle.meaning.specs.Rounds.{Progress, Way, holds, ownersByProbe, rounds, byProbe, slotsOf}
+use Rattle.meaning.specs.Rounds.{Progress, holds, ownersByProbe, byProbe, slotsOf}
 use Rattle.meaning.specs.Answer.{isAccepted, sheetTest}
 use Rattle.laws.proofs.Turns.{some-none, getD-tab, length-tab}
 use Rattle.laws.proofs.Walk.{probe-least, probe-most, probe-yes}
@@ -24,19 +24,8 @@ use Rattle.limits.specs.Sent.{inflow, sent}
 use Rattle.limits.proofs.Sums.{probe-at}
 use Rattle.limits.proofs.Served.{served, inflow-least}
 use Rattle.limits.proofs.Branch.{branch-own, branch-all}
-use Rattle.limits.proofs.Serving.{Kept, turn, after, more-sent, turn-sent, owner-sends, serves, slots-most}
-use Rattle.limits.proofs.Yard as Yard
-
--- the way by probe, by its parts
-abbrev road : List ℕ → Way
-road s =
-    record {
-      probes = probeCount s;
-      parent = parentOf s;
-      relation = entry (conflictTable s);
-      owners = ownersByProbe (λ v. getD (probeColours s) v 0);
-      colours = coloursUsed (probeColours s);
-    }
+use Rattle.limits.proofs.Serving.{Owning, Kept, turn, after, more-sent, turn-sent, owner-sends, serves, slots-most}
+use Rattle.limits.proofs.AcceptedYard as Yard
 
 -- only holders own a slot
 only-owners : (colour : ℕ → ℕ) (c : ℕ) (may : ℕ → Bool) → Only may (ownersByProbe colour c may)
@@ -55,22 +44,15 @@ unfolding ownersByProbe
 owns colour c may v h e m =
     getD-tab places (λ u. eqb (colour u) c && may u) v false h ∙ ap₂ _&&_ (eq-eqb (colour v) c e) m
 
-length-owners : (colour : ℕ → ℕ) (c : ℕ) (may : ℕ → Bool) → length (ownersByProbe colour c may) ≡ places
-unfolding ownersByProbe
-length-owners colour c may = length-tab places (λ v. eqb (colour v) c && may v)
-
 module _ (s : List ℕ) (ok : isAccepted (sheetTest s) ≡ true) where
-  only : (c : ℕ) (may : ℕ → Bool) → Only may (road s .owners c may)
-  only c may = only-owners (λ v. getD (probeColours s) v 0) c may
-
-  abbrev Held : Progress → Type 0
-  Held now = Kept (road s) (packetsOf s) (Yard.few s ok) (Yard.inside s ok) only now
-
-  abbrev turned : ℕ → Progress → Progress
-  turned c now = turn (road s) (packetsOf s) (Yard.few s ok) (Yard.inside s ok) only c now
-
-  abbrev gone : ℕ → Progress
-  gone r = after (road s) (packetsOf s) (Yard.few s ok) (Yard.inside s ok) only r
+  -- the way by probe, by its owners
+  abbrev by : Owning
+  by =
+      record {
+        owners = ownersByProbe (λ v. getD (probeColours s) v 0);
+        colours = coloursUsed (probeColours s);
+        only = only-owners (λ v. getD (probeColours s) v 0);
+      }
 
   module _ (v : ℕ) (h : isProbe (probeCount s) v ≡ true) where
     node : v < places
@@ -91,28 +73,27 @@ module _ (s : List ℕ) (ok : isAccepted (sheetTest s) ≡ true) where
     unfolding colour
     its-turn = omega (arith, colour-least)
 
-    owes : (now : Progress) → Held now → 1 ≤ getD (now .held) v 0 → sent (now .slots) v + 1 ≤ sent (turned (colour - 1 + 1) now .slots) v
+    owes : (now : Progress) → Kept s ok by now → 1 ≤ getD (now .held) v 0 → sent (now .slots) v + 1 ≤ sent (turn s ok by (colour - 1 + 1) now .slots) v
     owes now kept any =
         let c : ℕ = colour - 1 + 1 in
         let its : getD (probeColours s) v 0 ≡ c = its-turn in
         let may : holds (now .held) v ≡ true = lt-ltb 0 (getD (now .held) v 0) any in
         omega (
           arith,
-          turn-sent (road s) (packetsOf s) (Yard.few s ok) (Yard.inside s ok) only c now v,
-          owner-sends (probeCount s) (entry (conflictTable s)) (holds (now .held)) (ownersByProbe (λ u. getD (probeColours s) u 0) c (holds (now .held))) v
-              (Yard.few s ok) (length-owners (λ u. getD (probeColours s) u 0) c (holds (now .held))) h
+          turn-sent s ok by c now v,
+          owner-sends (probeCount s) (entry (conflictTable s)) (holds (now .held)) (ownersByProbe (λ u. getD (probeColours s) u 0) c (holds (now .held))) v h
               (owns (λ u. getD (probeColours s) u 0) c (holds (now .held)) v node its may),
         )
 
-    serves-probe : (r : ℕ) → min (sent (gone r .slots) v + 1) (packetsOf s v + inflow (probeCount s) (parentOf s) (sent (gone r .slots)) v) ≤ sent (gone (suc r) .slots) v
+    serves-probe : (r : ℕ) → min (sent (after s ok by r .slots) v + 1) (packetsOf s v + inflow (probeCount s) (parentOf s) (sent (after s ok by r .slots)) v) ≤ sent (after s ok by (suc r) .slots) v
     serves-probe r =
-        serves (road s) (packetsOf s) (Yard.few s ok) (Yard.inside s ok) only (packetsOf s v) (λ now. getD (now .held) v 0) (λ now. sent (now .slots) v)
+        serves s ok by (packetsOf s v) (λ now. getD (now .held) v 0) (λ now. sent (now .slots) v)
         (λ now. inflow (probeCount s) (parentOf s) (sent (now .slots)) v)
         (λ now kept. kept .balance v node)
         (λ c now. (
-          more-sent (road s) (packetsOf s) (Yard.few s ok) (Yard.inside s ok) only c now v,
-          inflow-least (probeCount s) (parentOf s) (sent (now .slots)) (sent (turned c now .slots)) v
-              (λ k _ _. more-sent (road s) (packetsOf s) (Yard.few s ok) (Yard.inside s ok) only c now (k + 2)),
+          more-sent s ok by c now v,
+          inflow-least (probeCount s) (parentOf s) (sent (now .slots)) (sent (turn s ok by c now .slots)) v
+              (λ k _ _. more-sent s ok by c now (k + 2)),
         ))
         (λ now kept none.
         let at = probe-at (probeCount s) v h in
@@ -121,29 +102,29 @@ module _ (s : List ℕ) (ok : isAccepted (sheetTest s) ≡ true) where
         (colour - 1) (omega (arith, colour-least, colour-most)) owes r
 
   -- after as many rounds as the heaviest branch has packets, each probe has sent all of its branch's
-  all-sent : (v : ℕ) → isProbe (probeCount s) v ≡ true → branchPackets (probeCount s) (parentOf s) (packetsOf s) v ≤ sent (gone (heaviest s) .slots) v
+  all-sent : (v : ℕ) → isProbe (probeCount s) v ≡ true → branchPackets (probeCount s) (parentOf s) (packetsOf s) v ≤ sent (after s ok by (heaviest s) .slots) v
   unfolding heaviest
   all-sent v h =
       let at = probe-at (probeCount s) v h in
       let heavy = most-holds (probeCount s) (λ k. branchPackets (probeCount s) (parentOf s) (packetsOf s) (k + 2)) (v - 2) (at .0) in
       let here = ap (branchPackets (probeCount s) (parentOf s) (packetsOf s)) (at .1) in
-      let enough = served (probeCount s) (parentOf s) (packetsOf s) (branchPackets (probeCount s) (parentOf s) (packetsOf s)) (λ _. 0) (λ r u. sent (gone r .slots) u)
+      let enough = served (probeCount s) (parentOf s) (packetsOf s) (branchPackets (probeCount s) (parentOf s) (packetsOf s)) (λ _. 0) (λ r u. sent (after s ok by r .slots) u)
       (λ u hu. omega (arith, branch-own (probeCount s) (parentOf s) (Yard.rooted s ok) (packetsOf s) u hu))
       (λ c _ up. omega (arith, Yard.some-packets s ok (parentOf s c) up))
       (λ r u hu. serves-probe u hu r)
       (heaviest s) v h in
       omega (arith, heavy, here, enough)
 
-  all-home : sumProbes (probeCount s) (packetsOf s) ≤ inflow (probeCount s) (parentOf s) (sent (gone (heaviest s) .slots)) 1
+  all-home : sumProbes (probeCount s) (packetsOf s) ≤ inflow (probeCount s) (parentOf s) (sent (after s ok by (heaviest s) .slots)) 1
   all-home =
       omega (
         arith,
         branch-all (probeCount s) (parentOf s) (Yard.rooted s ok) (packetsOf s),
-        inflow-least (probeCount s) (parentOf s) (branchPackets (probeCount s) (parentOf s) (packetsOf s)) (sent (gone (heaviest s) .slots)) 1
+        inflow-least (probeCount s) (parentOf s) (branchPackets (probeCount s) (parentOf s) (packetsOf s)) (sent (after s ok by (heaviest s) .slots)) 1
             (λ k hk _. all-sent (k + 2) (probe-yes (probeCount s) (k + 2) (omega arith) (omega arith))),
       )
 
   -- demand 3, by probe
   pub by-probe-most : length (slotsOf s (byProbe s)) ≤ coloursUsed (probeColours s) * heaviest s
   unfolding slotsOf byProbe
-  by-probe-most = slots-most (road s) (packetsOf s) (Yard.few s ok) (Yard.inside s ok) only (heaviest s) (hops s) all-home
+  by-probe-most = slots-most s ok by (heaviest s) (hops s) all-home

@@ -8,11 +8,11 @@ use Prim.Native.Nat.{ℕ, zero, suc, _+_, _*_, _≤_, _<_}
 use native.Mathlib.Nat.{not-suc-le-zero}
 use native.Mathlib.Omega.{arith}
 use lib.Dec.{eqb}
-use lib.ListN.{length, getD, length-append}
+use lib.ListN.{length, getD}
 use borrow.Author.Tests.{eq-eqb, ne-eqb}
 use Rattle.meaning.specs.Words.{sum, sumProbes, places, probesThat}
 use Rattle.meaning.specs.Yard.{isProbe}
-use Rattle.meaning.specs.Rounds.{Progress, moved, recorded}
+use Rattle.meaning.specs.Rounds.{moved}
 use Rattle.laws.proofs.Turns.{below-or-last, sum-same, same-or-other}
 use Rattle.laws.proofs.Walk.{probe-yes}
 use Rattle.laws.proofs.Moving.{Rising, Each, Sender, weigh, weighAll, weigh-moved}
@@ -121,25 +121,9 @@ unfolding sent
 sent-append [] ys v = omega arith
 sent-append (x ∷ xs) ys v = omega (arith, sent-append xs ys v)
 
-sent-one : (slot : List ℕ) (v : ℕ) → sent (slot ∷ []) v ≡ sentIn slot v
+pub sent-one : (slot : List ℕ) (v : ℕ) → sent (slot ∷ []) v ≡ sentIn slot v
 unfolding sent
 sent-one slot v = omega arith
-
--- a turn adds its slot, empty or not
-pub recorded-sent : (parent : ℕ → ℕ) (slot : List ℕ) (now : Progress) (v : ℕ) → sent (recorded parent slot now .slots) v ≡ sent (now .slots) v + sentIn slot v
-unfolding recorded sentIn
-recorded-sent parent [] now v = omega arith
-recorded-sent parent (u ∷ slot) now v = sent-append (now .slots) ((u ∷ slot) ∷ []) v ∙ ap (λ (n : ℕ). sent (now .slots) v + n) (sent-one (u ∷ slot) v)
-
-pub recorded-held : (parent : ℕ → ℕ) (slot : List ℕ) (now : Progress) → recorded parent slot now .held ≡ moved parent slot (now .held)
-unfolding recorded moved
-recorded-held parent [] now = refl
-recorded-held parent (u ∷ slot) now = refl
-
-pub recorded-few : (parent : ℕ → ℕ) (slot : List ℕ) (now : Progress) → length (recorded parent slot now .slots) ≤ suc (length (now .slots))
-unfolding recorded
-recorded-few parent [] now = omega arith
-recorded-few parent (u ∷ slot) now = omega (arith, length-append (now .slots) ((u ∷ slot) ∷ []))
 
 pub sent-in-append : (xs ys : List ℕ) (v : ℕ) → sentIn (xs ++ ys) v ≡ sentIn xs v + sentIn ys v
 unfolding sentIn

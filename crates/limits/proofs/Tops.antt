@@ -19,7 +19,7 @@ use Rattle.laws.proofs.Levels.{most-holds, most-within}
 use Rattle.limits.specs.Sent.{inflow}
 use Rattle.limits.proofs.Sums.{probe-at}
 use Rattle.limits.proofs.Branch.{Rooted, branch-own}
-use Rattle.limits.proofs.Yard.{rooted}
+use Rattle.limits.proofs.AcceptedYard.{rooted}
 
 -- what a probe has is a part of what its parent's children have together
 in-inflow : (p : ℕ) (parent many : ℕ → ℕ) (v : ℕ) → isProbe p v ≡ true → many v ≤ inflow p parent many (parent v)

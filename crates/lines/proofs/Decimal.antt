@@ -2,6 +2,7 @@
 use mathlib.Core.Path.{_≡_, refl, ap, _∙_}
 use mathlib.Core.List.{[], _∷_, _++_}
 use Prim.Native.Nat.{ℕ, zero, suc, _+_, _-_, _/_, _%_, _≤_, _<_}
+use native.Mathlib.Decide.{decLt}
 use native.Mathlib.Omega.{arith}
 use borrow.Author.Tests.{lt-ltb, le-ltb}
 use lib.ListN.{length, length-append}
@@ -28,3 +29,18 @@ decimal-more (suc most) n ne h =
 
 pub length-more : (most n : ℕ) → (most ≡ 0 → ⊥) → 10 ≤ n → length (decimal most n) ≡ length (decimal (most - 1) (n / 10)) + 1
 length-more most n ne h = ap length (decimal-more most n ne h) ∙ length-append (decimal (most - 1) (n / 10)) ((48 + n % 10) ∷ [])
+
+none-long : (n : ℕ) → length (decimal 0 n) ≡ 0
+unfolding decimal
+none-long n = refl
+
+-- a number has at most as many digits as are said of it
+pub digits-most : (most n : ℕ) → length (decimal most n) ≤ most
+digits-most zero n = omega (arith, none-long n)
+digits-most (suc most) n = go (decLt n 10) (digits-most most (n / 10))
+  where
+    go : Dec (n < 10) → length (decimal most (n / 10)) ≤ most → length (decimal (suc most) n) ≤ suc most
+    go (yes h) fewer = omega (arith, ap length (decimal-last (suc most) n (λ e. omega arith) h))
+    go (no h) fewer =
+        let before : suc most - 1 ≡ most = omega arith in
+        omega (arith, length-more (suc most) n (λ e. omega arith) (omega arith) ∙ ap (λ (k : ℕ). length (decimal k (n / 10)) + 1) before)

@@ -2,4 +2,4 @@
 pub mod Putting
 pub mod Decimal
 pub mod Lined
-pub mod Senders
+pub mod SendersText

@@ -3,7 +3,7 @@ use mathlib.Core.Path.{_≡_, refl, sym, ap, _∙_, subst}
 use mathlib.Core.Bool.{Bool, cond}
 use mathlib.Core.List.{List, _∷_, _++_}
 use Prim.Native.String.{String}
-use Prim.Native.Nat.{ℕ, suc, _+_, _-_, _≤_, _<_}
+use Prim.Native.Nat.{ℕ, suc, _+_, _≤_, _<_}
 use native.Mathlib.Nat.{zero-add}
 use native.Mathlib.Omega.{arith}
 use borrow.Author.Tests.{le-leb, lt-leb}
@@ -77,7 +77,7 @@ heaviest-branch : length (text " heaviest") ≡ 9
 unfolding text
 heaviest-branch = refl
 
-said-length : (word : String) (n : ℕ) → length (said word n) ≡ length (text word) + 1 + length (decimal 5 n)
+pub said-length : (word : String) (n : ℕ) → length (said word n) ≡ length (text word) + 1 + length (decimal 5 n)
 said-length word n =
     let words = length-append (text word) (text " ") ∙ ap (λ (k : ℕ). length (text word) + k) space in
     length-append (text word ++ text " ") (decimal 5 n) ∙ ap (λ (k : ℕ). k + length (decimal 5 n)) words

@@ -7,7 +7,8 @@ use native.Mathlib.Numerals.{add-one}
 use native.Mathlib.Omega.{arith}
 use lib.ListN.{length, getD, take, set, length-append}
 use lib.Seq.{sets, length-sets, take-suc, take-all}
-use Rattle.lines.specs.Line.{Put}
+use borrow.Author.Tests.{le-leb, lt-leb}
+use Rattle.lines.specs.Line.{Put, fitting}
 
 sets-append : (l : List ℕ) (i : ℕ) (xs ys : List ℕ) → sets l i (xs ++ ys) ≡ sets (sets l i xs) (i + length xs) ys
 sets-append l i [] ys = ap (λ (k : ℕ). sets l k ys) (sym (add-zero i))
@@ -58,3 +59,15 @@ put-byte l bytes at b e = subst (λ (s : List ℕ). Put l at s (set l at b) (at 
 pub put-last : (l mid xs bytes : List ℕ) (at next b : ℕ) → Put l at xs mid next → bytes ≡ xs ++ (b ∷ []) → Put l at bytes (set mid next b) (next + 1)
 put-last l mid xs bytes at next b p e =
     subst (λ (s : List ℕ). Put l at s (set mid next b) (next + 1)) (sym e) (put-more p (put-one mid next b))
+
+-- nothing, where the bytes do not fit, and all of them, where they do
+pub put-short : (l : List ℕ) (at : ℕ) (bytes : List ℕ) → length l < at + length bytes → Put l at (fitting l at bytes) l at
+unfolding fitting
+put-short l at bytes h = put-none l at (fitting l at bytes) (rw (lt-leb (at + length bytes) (length l) h))
+
+pub fitted : (l : List ℕ) (at : ℕ) (bytes : List ℕ) → at + length bytes ≤ length l → fitting l at bytes ≡ bytes
+unfolding fitting
+fitted l at bytes h = rw (le-leb (at + length bytes) (length l) h)
+
+pub put-fitting : {l after bytes : List ℕ} {at end : ℕ} → at + length bytes ≤ length l → Put l at bytes after end → Put l at (fitting l at bytes) after end
+put-fitting {l} {after} {bytes} {at} {end} h p = subst (λ (b : List ℕ). Put l at b after end) (sym (fitted l at bytes h)) p

@@ -5,7 +5,7 @@ ghost use Prim.Native.Nat.{_+_, _≤_};
 ghost use lib.Dec.{leb};
 ghost use lib.ListN.{length};
 ghost use Rattle.meaning.specs.Lister.{decimal, said, sendersText, refusalLine, numbersLine, slotLine};
-ghost use Rattle.lines.specs.Line.{lineLength, lineIn, Put};
+ghost use Rattle.lines.specs.Line.{lineLength, lineIn, fitting, Put};
 use meaning::Outcome;
 use meaning::Probe;
 use meaning::Slot;
@@ -54,6 +54,32 @@ fn put_digits(most: u8, n: u16, out: &mut [u8], at: usize) -> usize
     last + 1
 }
 
+// Puts bytes at a place, or nothing where they do not all fit; says where they end.
+pub fn put_words(bytes: &[u8], out: &mut [u8], at: usize) -> usize
+    ensures { λ r. ⌜ Put (now (out .entry)) at (fitting (now (out .entry)) at (now (bytes .entry))) (now (out .exit)) r ⌝ }
+{
+    if out.len() < at {
+        return at;
+    }
+    if out.len() - at < bytes.len() {
+        return at;
+    }
+    put_text(bytes, out, at)
+}
+
+// Puts a number at a place, in decimal, or nothing where it does not fit; says where it ends.
+pub fn put_number(n: u16, out: &mut [u8], at: usize) -> usize
+    ensures { λ r. ⌜ Put (now (out .entry)) at (fitting (now (out .entry)) at (decimal 5 n)) (now (out .exit)) r ⌝ }
+{
+    if out.len() < at {
+        return at;
+    }
+    if out.len() - at < digits(5, n) as usize {
+        return at;
+    }
+    put_digits(5, n, out, at)
+}
+
 // Puts words and then a number at a place; says where they end.
 fn put_said(words: &[u8], n: u16, out: &mut [u8], at: usize) -> usize
     requires { ⌜ at + length (now words ++ decimal 5 n) ≤ length (now out) ⌝ }
@@ -80,7 +106,7 @@ pub fn refusal_line(outcome: Outcome, out: &mut [u8]) -> usize
 }
 
 // Line one: the colours, the slots, all packets and those of the heaviest branch.
-pub fn first_line(colours: u8, slots: u16, packets: u16, heaviest: u16, out: &mut [u8]) -> usize
+pub fn numbers_line(colours: u8, slots: u16, packets: u16, heaviest: u16, out: &mut [u8]) -> usize
     ensures answer { λ r. ⌜ r ≡ lineLength (now (out .entry)) (numbersLine colours slots packets heaviest) ⌝ }
     ensures buffer { λ _. ⌜ now (out .exit) ≡ lineIn (now (out .entry)) (numbersLine colours slots packets heaviest) ⌝ }
 {

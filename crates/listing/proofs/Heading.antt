@@ -1,41 +1,27 @@
 -- Line one: what the code counts in the tree that it read is what the sheet says.
-use mathlib.Core.Path.{_≡_, ap, ap₂, _∙_, fun-ext}
+use mathlib.Core.Path.{_≡_, ap, ap₂, _∙_}
 use mathlib.Core.Bool.{true}
 use mathlib.Core.List.{List}
 use Prim.Native.Nat.{ℕ}
 use lib.ListN.{getD}
 use Rattle.meaning.specs.Words.{sumProbes}
 use Rattle.meaning.specs.Yard.{heaviestOf}
-use Rattle.meaning.specs.Sheet.{probeCount, parentOf, packetsOf, allPackets, heaviest}
+use Rattle.meaning.specs.Sheet.{allPackets, heaviest}
 use Rattle.meaning.specs.Answer.{isAccepted, sheetTest}
-use Rattle.laws.proofs.Grounds.{packets-read}
 use Rattle.meaning.specs.Lister.{numbersLine}
 use Rattle.lines.specs.Line.{lineLength, lineIn}
 use Rattle.sheet.specs.declared.Tree.{Tree}
 use Rattle.sheet.specs.Tree.{treeOf}
-use Rattle.sheet.proofs.Standing.{Standing, standing, parents-read}
+use Rattle.sheet.proofs.Standing.{Standing, standing, all-packets-read, heaviest-read}
 
 module _ (s : List ℕ) (ok : isAccepted (sheetTest s) ≡ true) (tree : Tree) (read : tree ≡ treeOf s) where
   its : Standing s tree
   its = standing s ok tree read
-
-  packets : (λ (v : ℕ). getD (tree .packets) v 0) ≡ packetsOf s
-  packets = fun-ext (λ v. ap (λ (l : List ℕ). getD l v 0) (its .packets) ∙ packets-read s ok v)
-
-  all-packets : sumProbes (tree .probes) (λ v. getD (tree .packets) v 0) ≡ allPackets s
-  unfolding allPackets
-  all-packets = ap₂ (λ (p : ℕ) (f : ℕ → ℕ). sumProbes p f) (its .probes) packets
-
-  heaviest-branch : heaviestOf (tree .probes) (λ v. getD (tree .parents) v 0) (λ v. getD (tree .packets) v 0) ≡ heaviest s
-  unfolding heaviest
-  heaviest-branch =
-      ap₂ (λ (p : ℕ) (up : ℕ → ℕ). heaviestOf p up (λ v. getD (tree .packets) v 0)) (its .probes) (parents-read s ok tree its)
-      ∙ ap (λ (f : ℕ → ℕ). heaviestOf (probeCount s) (parentOf s) f) packets
 
   pub headed : (colours slots all most : ℕ) (out out′ : List ℕ) (r : ℕ) → all ≡ sumProbes (tree .probes) (λ v. getD (tree .packets) v 0)
       → most ≡ heaviestOf (tree .probes) (λ v. getD (tree .parents) v 0) (λ v. getD (tree .packets) v 0)
       → r ≡ lineLength out (numbersLine colours slots all most) → out′ ≡ lineIn out (numbersLine colours slots all most)
       → (r ≡ lineLength out (numbersLine colours slots (allPackets s) (heaviest s))) × (out′ ≡ lineIn out (numbersLine colours slots (allPackets s) (heaviest s)))
   headed colours slots all most out out′ r sums most-of answer buffer =
-      let same = ap₂ (numbersLine colours slots) (sums ∙ all-packets) (most-of ∙ heaviest-branch) in
+      let same = ap₂ (numbersLine colours slots) (sums ∙ all-packets-read s ok tree its) (most-of ∙ heaviest-read s ok tree its) in
       (answer ∙ ap (lineLength out) same, buffer ∙ ap (lineIn out) same)

@@ -1,5 +1,5 @@
-pub mod Reading
-pub mod Walking
+pub mod SlotsRead
+pub mod LineByLine
 pub mod Measured
 pub mod Heading
-pub mod Answering
+pub mod Listed

@@ -2,7 +2,7 @@
 use mathlib.Core.Path.{_≡_, refl, ap, _∙_}
 use mathlib.Core.Bool.{true}
 use mathlib.Core.List.{List, [], _∷_, _++_}
-use Prim.Native.Nat.{ℕ, zero, suc, _+_, _-_, _*_, _/_, _≤_, _<_}
+use Prim.Native.Nat.{ℕ, suc, _+_, _*_, _/_, _≤_, _<_}
 use native.Mathlib.Decide.{decLt}
 use native.Mathlib.Omega.{arith}
 use lib.ListN.{length, getD, length-append}
@@ -16,23 +16,8 @@ use Rattle.laws.proofs.Walk.{probe-most}
 use Rattle.laws.proofs.Moving.{Each}
 use Rattle.laws.proofs.Grounds.{few-probes}
 use Rattle.laws.proofs.Running.{at-each}
-use Rattle.lines.proofs.Decimal.{decimal-last, length-more}
+use Rattle.lines.proofs.Decimal.{decimal-last, length-more, digits-most}
 use Rattle.lines.proofs.Lined.{sender-length, refusal-length, numbers-length, slot-length, slot-line}
-
-none-long : (n : ℕ) → length (decimal 0 n) ≡ 0
-unfolding decimal
-none-long n = refl
-
--- a number has at most as many digits as are said of it
-digits-most : (most n : ℕ) → length (decimal most n) ≤ most
-digits-most zero n = omega (arith, none-long n)
-digits-most (suc most) n = go (decLt n 10) (digits-most most (n / 10))
-  where
-    go : Dec (n < 10) → length (decimal most (n / 10)) ≤ most → length (decimal (suc most) n) ≤ suc most
-    go (yes h) fewer = omega (arith, ap length (decimal-last (suc most) n (λ e. omega arith) h))
-    go (no h) fewer =
-        let before : suc most - 1 ≡ most = omega arith in
-        omega (arith, length-more (suc most) n (λ e. omega arith) (omega arith) ∙ ap (λ (k : ℕ). length (decimal k (n / 10)) + 1) before)
 
 -- a number below 100 has at most two
 two-digits : (n : ℕ) → n < 100 → length (decimal 5 n) ≤ 2

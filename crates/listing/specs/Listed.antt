@@ -1,26 +1,20 @@
--- Document 01, "The lister": the whole text in a lent buffer, and the slots that the bytes of a plan stand for.
+-- Document 01, "The lister": the whole text in a lent buffer.
 use mathlib.Core.Path.{_≡_}
 use mathlib.Core.Bool.{cond}
-use mathlib.Core.List.{List, [], _∷_, _++_}
-use Prim.Native.Nat.{ℕ, zero, suc, _+_, _-_, _*_, _≤_}
+use mathlib.Core.List.{List, _++_}
+use Prim.Native.Nat.{ℕ, _+_, _-_, _*_, _≤_}
 use lib.Dec.{leb}
 use lib.ListN.{length}
-use Rattle.meaning.specs.Plan.{front}
-use Rattle.meaning.specs.Judge.{nextAt, sendersAt}
-use Rattle.meaning.specs.Lister.{anyText, slotLines, sheetListed}
+use Rattle.meaning.specs.Plan.{front, slotsFrom}
+use Rattle.meaning.specs.Lister.{anyText, slotLines, list}
 
 -- how many bytes are written: the whole text, or none where the buffer is too short
 abbrev pub listedLength : List ℕ → List ℕ → ℕ
-listedLength s buffer = cond (leb anyText (length buffer)) (length (sheetListed s)) 0
+listedLength s buffer = cond (leb anyText (length buffer)) (length (list s)) 0
 
 -- the buffer afterwards: the whole text at its start and the rest as before, or untouched where it is too short
 abbrev pub listedIn : List ℕ → List ℕ → List ℕ
-listedIn s buffer = cond (leb anyText (length buffer)) (front buffer (sheetListed s)) buffer
-
--- "The plan in bytes": so many slots, read from a place of a plan on
-unfoldable pub slotsFrom : List ℕ → ℕ → ℕ → List (List ℕ)
-slotsFrom plan at zero = []
-slotsFrom plan at (suc left) = sendersAt plan at ∷ slotsFrom plan (nextAt plan at) left
+listedIn s buffer = cond (leb anyText (length buffer)) (front buffer (list s)) buffer
 
 -- the lines of the first k slots stand at the start of a buffer that has room for all; `place` is where slot k stands in the plan, `at` where its line goes
 pub record Listing (plan : List ℕ) (slots : ℕ) (before after : List ℕ) (place at k : ℕ) : Type 0 where

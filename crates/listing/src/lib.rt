@@ -4,29 +4,12 @@ ghost use mathlib.Core.Bool.{true};
 ghost use Prim.Native.Nat.{_≤_};
 ghost use lib.ListN.{length, take};
 ghost use Rattle.meaning.specs.Sheet.{allPackets, heaviest};
-ghost use Rattle.meaning.specs.Plan.{front};
+ghost use Rattle.meaning.specs.Plan.{slotsFrom, front};
 ghost use Rattle.meaning.specs.Answer.{isAccepted, sheetTest};
-ghost use Rattle.meaning.specs.Judge.{sendersAt};
 ghost use Rattle.meaning.specs.Lister.{slotLines, numbersLine};
 ghost use Rattle.lines.specs.Line.{lineLength, lineIn};
-ghost use Rattle.listing.specs.Listed.{listedLength, listedIn, slotsFrom};
+ghost use Rattle.listing.specs.Listed.{listedLength, listedIn};
 use meaning::Slot;
-
-// The senders of the slot at a place of a plan; none past its end.
-fn senders_at(plan: &[u8], at: usize) -> &[u8]
-    ensures { λ r. ⌜ now r ≡ sendersAt (now (plan .entry)) at ⌝ }
-{
-    let end = plan.len();
-    if end <= at {
-        return &plan[end..];
-    }
-    let first = at + 1;
-    let next = first + plan[at] as usize;
-    if end < next {
-        return &plan[first..];
-    }
-    &plan[first..next]
-}
 
 // The lines of so many slots of a plan; says where they end.
 fn slot_lines(plan: &[u8], slots: u16, out: &mut [u8]) -> usize
@@ -38,7 +21,7 @@ fn slot_lines(plan: &[u8], slots: u16, out: &mut [u8]) -> usize
     let mut at: usize = 0;
     let mut k: u16 = 0;
     while k < slots {
-        let senders = senders_at(plan, place);
+        let senders = slot::senders_at(plan, place);
         at += lines::slot_line(Slot(k + 1), senders, &mut out[at..]);
         place += 1 + laws::number_at(plan, place) as usize;
         k += 1;
@@ -49,8 +32,10 @@ fn slot_lines(plan: &[u8], slots: u16, out: &mut [u8]) -> usize
 // Line one of an accepted sheet.
 fn first(sheet: &[u8], colours: u8, slots: u16, out: &mut [u8]) -> usize
     requires { ⌜ isAccepted (sheetTest (now sheet)) ≡ true ⌝ }
-    ensures answer { λ r. ⌜ r ≡ lineLength (now (out .entry)) (numbersLine colours slots (allPackets (now (sheet .entry))) (heaviest (now (sheet .entry)))) ⌝ }
-    ensures buffer { λ _. ⌜ now (out .exit) ≡ lineIn (now (out .entry)) (numbersLine colours slots (allPackets (now (sheet .entry))) (heaviest (now (sheet .entry)))) ⌝ }
+    ensures answer { λ r. ⌜ r
+        ≡ lineLength (now (out .entry)) (numbersLine colours slots (allPackets (now (sheet .entry))) (heaviest (now (sheet .entry)))) ⌝ }
+    ensures buffer { λ _. ⌜ now (out .exit)
+        ≡ lineIn (now (out .entry)) (numbersLine colours slots (allPackets (now (sheet .entry))) (heaviest (now (sheet .entry)))) ⌝ }
 {
     let tree = sheet::read(sheet);
     let p = tree.probes;
@@ -58,7 +43,7 @@ fn first(sheet: &[u8], colours: u8, slots: u16, out: &mut [u8]) -> usize
     let packets = tree.packets;
     let all = branch::all_packets(p, &packets);
     let most = branch::heaviest(p, parents, packets);
-    lines::first_line(colours, slots, all, most, out)
+    lines::numbers_line(colours, slots, all, most, out)
 }
 
 // The whole text for a sheet, at the start of a lent buffer that has room for any; says how many bytes it has.

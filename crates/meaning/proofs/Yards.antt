@@ -9,17 +9,19 @@ use lib.Dec.{T, eqb, ltb}
 use lib.ListN.{take, drop, replicate}
 use Rattle.meaning.specs.declared.Outcome.{Outcome}
 use Rattle.meaning.specs.declared.Planned.{Planned}
+use Rattle.meaning.specs.declared.Told.{Told}
 use Rattle.meaning.specs.declared.Verdict.{Verdict}
-use Rattle.meaning.specs.Words.{forEach, some, sum, most, tab, places, probesThat}
+use Rattle.meaning.specs.Words.{Bytes, forEach, some, sum, most, tab, places, probesThat}
 use Rattle.meaning.specs.Yard.{reaches, climb, climbed}
 use Rattle.meaning.specs.Sheet.{twoAt, probeCount, parentOf, packetsOf, levelOf, hops, allPackets, heaviest, interfere}
-use Rattle.meaning.specs.Plan.{twoBytes, slotBytes, roomFor}
+use Rattle.meaning.specs.Plan.{twoBytes, slotBytes, slotsFrom, roomFor, front}
 use Rattle.meaning.specs.Conflict.{disturb, conflict, tableOf, entry, conflictTable}
 use Rattle.meaning.specs.Colour.{smallestFree, nextOf, colouredBy, probeColours, levelsConflict, levels, depth, levelColours}
-use Rattle.meaning.specs.Rounds.{Way, joined, ownersByProbe, ownersByLevel, slotOf, moved, recorded, round, rounds, byProbe, byLevel, slotsOf}
-use Rattle.meaning.specs.Answer.{accepted, _then_, inOrder, probeTest, walkTest, pairTest, countsTest, sheetTest, planTest, planAnswer, planBuffer}
+use Rattle.meaning.specs.Rounds.{Way, joined, ownersByProbe, ownersByLevel, slotOf, turnOf, moved, heldAfter, recorded, round, rounds, byProbe, byLevel, slotsOf}
+use Rattle.meaning.specs.Answer.{accepted, _then_, inOrder, probeTest, walkTest, pairTest, countsTest, sheetTest, planTest, planMade}
 use Rattle.meaning.specs.Judge.{Judging, slotTest, slotJudged, slotsJudged, planJudgedBy, planJudged, judge, choice, handedBack}
-use Rattle.meaning.specs.Lister.{text, decimal, numbersLine, sendersText, refusalLine, slotLine, slotLines, sheetListed, listing}
+use Rattle.meaning.specs.Lister.{text, decimal, numbersLine, sendersText, refusalLine, slotLine, slotLines, list, listing}
+use Rattle.meaning.specs.Telephone.{asked}
 
 -- a sheet, a plan or a buffer as document 01 writes it: two digits a byte, one space between
 digit : ℕ → ℕ
@@ -46,7 +48,8 @@ many (suc k) piece rest = before piece (many k piece rest)
 -- what a row says of the sheet that it begins with. `tested` gives number and place. `conflicts` gives for each probe those that it conflicts
 -- with, `level-conflicts` the same of levels. A planner's row gives the length of the buffer lent, whose bytes are all `ee`; then number, place, colours, slots and bytes written; then
 -- the whole buffer afterwards. A judge's row gives the plan; then number, place and slots; `holding` gives it too, and what the nodes from 0
--- on hold after its slots. A count's bytes and a number's and a slot's text stand by themselves
+-- on hold after its slots. The telephone's row gives number and place, then the slots at least, in our plan, and at most. A plan's slots, a count's bytes,
+-- and a number's and a slot's text stand by themselves
 pub data Row : Type 0 where
   tested : String → ℕ → ℕ → Row
   room : String → ℕ → Row
@@ -60,14 +63,16 @@ pub data Row : Type 0 where
   holding : String → String → List ℕ → Row
   chosen : String → String → String → String → Row
   listed : String → String → Row
+  asked-for : String → List ℕ → Row
   count-bytes : ℕ → String → Row
+  slots-read : String → List (List ℕ) → Row
   number-text : ℕ → String → Row
   refusal-text : ℕ → ℕ → String → Row
   numbers-text : ℕ → ℕ → ℕ → ℕ → String → Row
   slot-text : ℕ → List ℕ → String → Row
 
-planner : List ℕ → Way → ℕ → List ℕ
-planner s way lent = numbers (planAnswer s way lent) ++ planBuffer s way (replicate lent 0xee)
+planner : (Bytes → Way) → Bytes → ℕ → Bytes
+planner by s lent = let made = planMade by s lent in numbers (made .answer) ++ front (replicate lent 0xee) (made .written)
   where
     numbers : Planned → List ℕ
     numbers r = r .outcome .number ∷ r .outcome .place ∷ r .colours ∷ r .slots ∷ r .bytes ∷ []
@@ -75,11 +80,20 @@ planner s way lent = numbers (planAnswer s way lent) ++ planBuffer s way (replic
 verdict : Verdict → List ℕ
 verdict r = r .outcome .number ∷ r .outcome .place ∷ r .slots ∷ []
 
+told : Told → List ℕ
+told r = r .outcome .number ∷ r .outcome .place ∷ r .least ∷ r .ours ∷ r .most ∷ []
+
 same : List ℕ → List ℕ → Bool
 same [] [] = true
 same [] (y ∷ ys) = false
 same (x ∷ xs) [] = false
 same (x ∷ xs) (y ∷ ys) = eqb x y && same xs ys
+
+alike : List (List ℕ) → List (List ℕ) → Bool
+alike [] [] = true
+alike [] (y ∷ ys) = false
+alike (x ∷ xs) [] = false
+alike (x ∷ xs) (y ∷ ys) = same x y && alike xs ys
 
 -- the places of a row's flags that are up, where the row begins at place k
 up : ℕ → List Bool → List ℕ
@@ -108,8 +122,8 @@ true-row (level-conflicts sheet rows) = says (tableOf (levelsConflict (probeCoun
     s : List ℕ
     s = hex sheet
 true-row (level-colours sheet colours) = same (take (depth (hex sheet)) (drop 1 (levelColours (hex sheet)))) colours
-true-row (plan-by-probe sheet lent numbers after) = same (planner (hex sheet) (byProbe (hex sheet)) lent) (numbers ++ hex after)
-true-row (plan-by-level sheet lent numbers after) = same (planner (hex sheet) (byLevel (hex sheet)) lent) (numbers ++ hex after)
+true-row (plan-by-probe sheet lent numbers after) = same (planner byProbe (hex sheet) lent) (numbers ++ hex after)
+true-row (plan-by-level sheet lent numbers after) = same (planner byLevel (hex sheet) lent) (numbers ++ hex after)
 true-row (judged sheet plan numbers) = same (verdict (judge (hex sheet) (hex plan))) numbers
 true-row (holding sheet plan packets) = same (take (probeCount s + 2) (slotsJudged (probeCount s) (parentOf s) (entry (conflictTable s)) bytes (twoAt bytes 0) start .held)) packets
   where
@@ -123,7 +137,9 @@ true-row (holding sheet plan packets) = same (take (probeCount s + 2) (slotsJudg
     start = record { outcome = accepted; at = 2; held = tab places (packetsOf s) }
 true-row (chosen sheet a b handed) = same (handedBack (choice (hex sheet) (hex a) (hex b)) (hex a) (hex b)) (hex handed)
 true-row (listed sheet printed) = same (listing (hex sheet)) (text printed)
+true-row (asked-for sheet numbers) = same (told (asked (hex sheet))) numbers
 true-row (count-bytes number written) = same (twoBytes number) (hex written)
+true-row (slots-read plan slots) = alike (slotsFrom (hex plan) 2 (twoAt (hex plan) 0)) slots
 true-row (number-text number printed) = same (decimal 5 number) (text printed)
 true-row (refusal-text number place printed) = same (refusalLine (record { number = number; place = place })) (text printed)
 true-row (numbers-text colours slots packets most printed) = same (numbersLine colours slots packets most) (text printed)
@@ -245,6 +261,7 @@ yards =
     ∷ room "02 01 02 02 03 00 00" 18
     ∷ room mixed 52
     -- a count of slots, high byte first
+    ∷ slots-read "00 02 02 02 03 01 04" ((2 ∷ 3 ∷ []) ∷ (4 ∷ []) ∷ [])
     ∷ count-bytes 255 "00 ff"
     ∷ count-bytes 256 "01 00"
     ∷ count-bytes 30240 "76 20"
@@ -331,6 +348,13 @@ yards =
     ∷ plan-by-level "00 00 00" 2 (0 ∷ 0 ∷ 0 ∷ 0 ∷ 2 ∷ []) "00 00"
     ∷ plan-by-probe "00 00 00" 1 (9 ∷ 0 ∷ 0 ∷ 0 ∷ 0 ∷ []) "ee"
     ∷ plan-by-level "00 00 00" 1 (9 ∷ 0 ∷ 0 ∷ 0 ∷ 0 ∷ []) "ee"
+    -- the telephone: at most is the smaller of colours × heaviest branch and hops: in the arms 6 and not 9, in the star of 1, 1 and 15 packets 17 and not 45
+    ∷ asked-for ring (6 ∷ 2 ∷ 0 ∷ 0 ∷ 0 ∷ [])
+    ∷ asked-for "00 00 00" (0 ∷ 0 ∷ 0 ∷ 0 ∷ 0 ∷ [])
+    ∷ asked-for A (0 ∷ 0 ∷ 3 ∷ 3 ∷ 4 ∷ [])
+    ∷ asked-for chain (0 ∷ 0 ∷ 3 ∷ 6 ∷ 6 ∷ [])
+    ∷ asked-for (arms "00 00") (0 ∷ 0 ∷ 6 ∷ 6 ∷ 6 ∷ [])
+    ∷ asked-for "03 01 01 01 01 01 0f 00 00" (0 ∷ 0 ∷ 17 ∷ 17 ∷ 17 ∷ [])
     -- A, by probe and by level; 9 is one byte less than its room
     ∷ plan-by-probe A 10 (0 ∷ 0 ∷ 2 ∷ 3 ∷ 9 ∷ []) "00 03 01 02 02 03 04 01 02 ee"
     ∷ plan-by-probe A 9 (9 ∷ 0 ∷ 0 ∷ 0 ∷ 0 ∷ []) "ee ee ee ee ee ee ee ee ee"
@@ -366,11 +390,11 @@ yards =
 
 -- the one claim: every row is true
 pub proved-yards : T (all-true yards)
-unfolding digit pairs hex many planner verdict same up says true-row all-true A A-with-a-pair chain turned ring five arms mixed star yards
-    forEach some sum most tab probesThat reaches climb climbed parentOf packetsOf levelOf hops allPackets heaviest interfere slotBytes
+unfolding digit pairs hex many planner verdict told same alike up says true-row all-true A A-with-a-pair chain turned ring five arms mixed star yards
+    forEach some sum most tab probesThat reaches climb climbed parentOf packetsOf levelOf hops allPackets heaviest interfere slotBytes slotsFrom
     disturb conflict conflictTable smallestFree nextOf colouredBy probeColours levelsConflict levels depth levelColours
-    joined ownersByProbe ownersByLevel slotOf moved recorded round rounds byProbe byLevel slotsOf
-    _then_ inOrder probeTest walkTest pairTest countsTest sheetTest planTest planAnswer planBuffer
+    joined ownersByProbe ownersByLevel slotOf turnOf moved heldAfter recorded round rounds byProbe byLevel slotsOf
+    _then_ inOrder probeTest walkTest pairTest countsTest sheetTest planTest planMade
     slotTest slotJudged slotsJudged planJudgedBy planJudged judge choice
-    text decimal numbersLine sendersText slotLine slotLines sheetListed
+    text decimal numbersLine sendersText slotLine slotLines list asked
 proved-yards = tt

@@ -1,37 +1,44 @@
 -- Document 01, "Numbers returned": the judge and the chooser.
 use mathlib.Core.Bool.{Bool, cond, not, _&&_, _||_}
-use mathlib.Core.List.{List, []}
+use mathlib.Core.List.{List}
 use Prim.Native.Nat.{ℕ, _+_, _-_}
 use lib.Dec.{ltb, leb}
-use lib.ListN.{length, getD, take, drop}
+use lib.ListN.{length, getD, take}
 use Rattle.meaning.specs.declared.Outcome.{Outcome}
 use Rattle.meaning.specs.declared.Verdict.{Verdict}
 use Rattle.meaning.specs.declared.Choice.{Choice}
 use Rattle.meaning.specs.declared.Choice.the-variants.{Neither, First, Second}
-use Rattle.meaning.specs.Words.{forEach, some, tab, places}
+use Rattle.meaning.specs.Words.{Bytes, Node, Relation, forEach, some, tab, places}
 use Rattle.meaning.specs.Yard.{isProbe}
 use Rattle.meaning.specs.Sheet.{twoAt, probeCount, parentOf, packetsOf}
 use Rattle.meaning.specs.Conflict.{entry, conflictTable}
+use Rattle.meaning.specs.Plan.{nextAt, sendersAt}
 use Rattle.meaning.specs.Rounds.{holds, outside, moved}
 use Rattle.meaning.specs.Answer.{accepted, isAccepted, given, _then_, sheetTest}
 
--- "The plan in bytes": the slot at a place of a plan has its count there, then its senders, and then the next slot begins
-abbrev pub nextAt : List ℕ → ℕ → ℕ
-nextAt plan at = at + 1 + getD plan at 0
+-- "Numbers returned": 12, some sender is no probe
+abbrev pub someNoProbe : (p : ℕ) → (slot : List Node) → Bool
+someNoProbe p slot = some (length slot) (λ i. not (isProbe p (getD slot i 0)))
 
-abbrev pub sendersAt : List ℕ → ℕ → List ℕ
-sendersAt plan at = take (getD plan at 0) (drop (at + 1) plan)
+-- "Numbers returned": 13, some sender is not above the one before
+abbrev pub someNotRising : (slot : List Node) → Bool
+someNotRising slot = some (length slot - 1) (λ i. leb (getD slot (i + 1) 0) (getD slot i 0))
+
+-- "Numbers returned": 14, some sender holds no packet before the slot
+abbrev pub someNoPacket : (held : List ℕ) → (slot : List Node) → Bool
+someNoPacket held slot = some (length slot) (λ i. not (holds held (getD slot i 0)))
+
+-- "Numbers returned": 15, two senders conflict
+abbrev pub someConflict : Relation → (slot : List Node) → Bool
+someConflict relation slot = some (length slot) (λ i. some (length slot) (λ j. ltb i j && relation (getD slot i 0) (getD slot j 0)))
 
 -- "Numbers returned": 12 to 15 of one slot, each tried over the whole slot before the next
-unfoldable pub slotTest : ℕ → (ℕ → ℕ → Bool) → List ℕ → ℕ → List ℕ → Outcome
+unfoldable pub slotTest : (p : ℕ) → Relation → (held : List ℕ) → (place : ℕ) → (slot : List Node) → Outcome
 slotTest p relation held place slot =
-    given 12 place (some (length slot) (λ i. not (isProbe p (sender i))))
-    then given 13 place (some (length slot - 1) (λ i. leb (sender (i + 1)) (sender i)))
-    then given 14 place (some (length slot) (λ i. not (holds held (sender i))))
-    then given 15 place (some (length slot) (λ i. some (length slot) (λ j. ltb i j && relation (sender i) (sender j))))
-  where
-    sender : ℕ → ℕ
-    sender i = getD slot i 0
+    given 12 place (someNoProbe p slot)
+    then given 13 place (someNotRising slot)
+    then given 14 place (someNoPacket held slot)
+    then given 15 place (someConflict relation slot)
 
 -- how far the judge has come: what is wrong so far, where the next slot begins, and the packets that each node holds
 pub record Judging : Type 0 where
@@ -40,7 +47,7 @@ pub record Judging : Type 0 where
   pub held : List ℕ
 
 -- "Numbers returned": one slot, 11 first; a passed slot moves its packets
-unfoldable pub slotJudged : ℕ → (ℕ → ℕ) → (ℕ → ℕ → Bool) → List ℕ → ℕ → Judging → Judging
+unfoldable pub slotJudged : (p : ℕ) → (parent : Node → Node) → Relation → (plan : Bytes) → (place : ℕ) → Judging → Judging
 slotJudged p parent relation plan place now =
     let slot = sendersAt plan (now .at) in
     let outcome = given 11 place (ltb (length plan) (nextAt plan (now .at))) then slotTest p relation (now .held) place slot in
@@ -49,12 +56,12 @@ slotJudged p parent relation plan place now =
     (record { outcome = outcome; at = now .at; held = now .held })
 
 -- "Numbers returned": slots in order, up to the first that is refused
-unfoldable pub slotsJudged : ℕ → (ℕ → ℕ) → (ℕ → ℕ → Bool) → List ℕ → ℕ → Judging → Judging
+unfoldable pub slotsJudged : (p : ℕ) → (parent : Node → Node) → Relation → (plan : Bytes) → (many : ℕ) → Judging → Judging
 slotsJudged p parent relation plan many start =
     forEach many (λ k now. cond (isAccepted (now .outcome)) (slotJudged p parent relation plan (k + 1) now) now) start
 
 -- "Numbers returned": the slots of a plan, then 16, then 17
-unfoldable pub planJudgedBy : ℕ → (ℕ → ℕ) → (ℕ → ℕ → Bool) → List ℕ → List ℕ → Outcome
+unfoldable pub planJudgedBy : (p : ℕ) → (parent : Node → Node) → Relation → (packets : List ℕ) → (plan : Bytes) → Outcome
 planJudgedBy p parent relation packets plan =
     let start : Judging = record { outcome = accepted; at = 2; held = packets } in
     let end = slotsJudged p parent relation plan (twoAt plan 0) start in
@@ -62,13 +69,13 @@ planJudgedBy p parent relation packets plan =
     then given 16 (twoAt plan 0) (ltb (end .at) (length plan))
     then given 17 (twoAt plan 0) (outside p (end .held))
 
-unfoldable pub planJudged : List ℕ → List ℕ → Outcome
+unfoldable pub planJudged : (s plan : Bytes) → Outcome
 planJudged s plan =
     let table = conflictTable s in
     planJudgedBy (probeCount s) (parentOf s) (entry table) (tab places (packetsOf s)) plan
 
 -- "Numbers returned": the judge tests the sheet first; it answers number, place and slots, the last being 0 unless passed
-unfoldable pub judge : List ℕ → List ℕ → Verdict
+unfoldable pub judge : (s plan : Bytes) → Verdict
 judge s plan =
     let outcome = sheetTest s then given 11 0 (ltb (length plan) 2) then planJudged s plan in
     record { outcome = outcome; slots = cond (isAccepted outcome) (twoAt plan 0) 0 }
@@ -79,11 +86,11 @@ chooseBy a b =
     cond (isAccepted (a .outcome) && (not (isAccepted (b .outcome)) || leb (a .slots) (b .slots))) First
     (cond (isAccepted (b .outcome)) Second Neither)
 
-unfoldable pub choice : List ℕ → List ℕ → List ℕ → Choice
+unfoldable pub choice : (s first second : Bytes) → Choice
 choice s a b = chooseBy (judge s a) (judge s b)
 
 -- "Numbers returned": what each choice hands back; the empty part at the start of the first is the chooser's refusal
-abbrev pub handedBack : Choice → List ℕ → List ℕ → List ℕ
+abbrev pub handedBack : Choice → (first second : Bytes) → Bytes
 handedBack First a b = a
 handedBack Second a b = b
 handedBack Neither a b = take 0 a

@@ -9,4 +9,5 @@ pub mod Rounds
 pub mod Answer
 pub mod Judge
 pub mod Lister
+pub mod Telephone
 pub mod Legal

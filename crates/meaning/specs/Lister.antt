@@ -5,52 +5,53 @@ use Prim.Native.Nat.{ℕ, zero, suc, _+_, _/_, _%_}
 use Prim.Native.Char.{code}
 use Prim.Native.String.{String, [] as end, _∷_ as _and_}
 use lib.Dec.{ltb}
-use lib.ListN.{length, take}
+use lib.ListN.{take}
 use Rattle.meaning.specs.declared.Outcome.{Outcome}
 use Rattle.meaning.specs.declared.Planned.{Planned}
+use Rattle.meaning.specs.Words.{Bytes, Node, Slots}
 use Rattle.meaning.specs.Sheet.{decidingSheet, allPackets, heaviest}
 use Rattle.meaning.specs.Plan.{anyPlan}
 use Rattle.meaning.specs.Rounds.{byProbe, slotsOf}
-use Rattle.meaning.specs.Answer.{isAccepted, planAnswer}
+use Rattle.meaning.specs.Answer.{isAccepted, planMade}
 
 -- the bytes of a plain text
-unfoldable pub text : String → List ℕ
+unfoldable pub text : String → Bytes
 text end = []
 text (letter and rest) = code letter ∷ text rest
 
 -- a number in decimal, of at most so many digits
-unfoldable pub decimal : ℕ → ℕ → List ℕ
+unfoldable pub decimal : (digits n : ℕ) → Bytes
 decimal zero n = []
 decimal (suc more) n = cond (ltb n 10) ((48 + n) ∷ []) (decimal more (n / 10) ++ ((48 + n % 10) ∷ []))
 
 -- a word, a space and a number
-abbrev pub said : String → ℕ → List ℕ
+abbrev pub said : String → ℕ → Bytes
 said word n = text word ++ text " " ++ decimal 5 n
 
 -- "The lister": line one has M, the slots, all packets, and the packets of the heaviest branch; of the four numbers, and of a sheet
-unfoldable pub numbersLine : ℕ → ℕ → ℕ → ℕ → List ℕ
+unfoldable pub numbersLine : (colours slots packets most : ℕ) → Bytes
 numbersLine colours slots packets most =
     said "colours" colours ++ said " slots" slots ++ said " packets" packets ++ said " heaviest" most ++ text "\n"
 
-abbrev pub firstLine : List ℕ → Planned → List ℕ
+abbrev pub firstLine : (s : Bytes) → Planned → Bytes
 firstLine s planned = numbersLine (planned .colours) (planned .slots) (allPackets s) (heaviest s)
 
 -- "The lister": the senders of a slot, each after a space
-unfoldable pub sendersText : List ℕ → List ℕ
+unfoldable pub sendersText : (slot : List Node) → Bytes
 sendersText [] = []
 sendersText (v ∷ slot) = said "" v ++ sendersText slot
 
 -- "The lister": each other line has a slot number, a colon, and its senders
-unfoldable pub slotLine : ℕ → List ℕ → List ℕ
+unfoldable pub slotLine : (number : ℕ) → (slot : List Node) → Bytes
 slotLine number slot = decimal 5 number ++ text ":" ++ sendersText slot ++ text "\n"
 
 -- "The lister": the lines of the slots, from 1; `done` slots stand before
-unfoldable pub slotLines : ℕ → List (List ℕ) → List ℕ
+unfoldable pub slotLines : (done : ℕ) → Slots → Bytes
 slotLines done [] = []
 slotLines done (slot ∷ slots) = slotLine (suc done) slot ++ slotLines (suc done) slots
 
 -- "The lister": a refusal prints only its number and place
-abbrev pub refusalLine : Outcome → List ℕ
+abbrev pub refusalLine : Outcome → Bytes
 refusalLine outcome = said "refused" (outcome .number) ++ said "" (outcome .place) ++ text "\n"
 
 -- "The lister": room for any text: line one has at most 55 bytes, and ten bytes are enough for each of at most 30,240 hops
@@ -58,12 +59,11 @@ abbrev pub anyText : ℕ
 anyText = 302455
 
 -- "The lister": the plan by probe of a sheet, in a buffer with room for any plan
-unfoldable pub sheetListed : List ℕ → List ℕ
-sheetListed s =
-    let way = byProbe s in
-    let planned = planAnswer s way anyPlan in
-    cond (isAccepted (planned .outcome)) (firstLine s planned ++ slotLines 0 (slotsOf s way)) (refusalLine (planned .outcome))
+unfoldable pub list : (s : Bytes) → Bytes
+list s =
+    let planned = planMade byProbe s anyPlan .answer in
+    cond (isAccepted (planned .outcome)) (firstLine s planned ++ slotLines 0 (slotsOf s (byProbe s))) (refusalLine (planned .outcome))
 
 -- "The lister": at most 4,162 bytes are read, which decide every answer
-abbrev pub listing : List ℕ → List ℕ
-listing input = sheetListed (take decidingSheet input)
+abbrev pub listing : (input : Bytes) → Bytes
+listing input = list (take decidingSheet input)

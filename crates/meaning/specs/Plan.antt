@@ -1,23 +1,36 @@
 -- Document 01, "The plan in bytes".
 use mathlib.Core.List.{List, [], _∷_, _++_}
-use Prim.Native.Nat.{ℕ, _+_, _*_, _/_, _%_}
-use lib.ListN.{length, drop}
+use Prim.Native.Nat.{ℕ, zero, suc, _+_, _*_, _/_, _%_}
+use lib.ListN.{length, getD, take, drop}
+use Rattle.meaning.specs.Words.{Bytes, Node, Slots}
 
 -- "The plan in bytes": two bytes, high first
-abbrev pub twoBytes : ℕ → List ℕ
+abbrev pub twoBytes : ℕ → Bytes
 twoBytes k = (k / 256) ∷ (k % 256) ∷ []
 
 -- "The plan in bytes": each slot is one byte, the number of senders, and the senders
-unfoldable pub slotBytes : List (List ℕ) → List ℕ
+unfoldable pub slotBytes : Slots → Bytes
 slotBytes [] = []
 slotBytes (senders ∷ slots) = (length senders ∷ senders) ++ slotBytes slots
 
 -- "The plan in bytes": the number of slots, then each slot
-abbrev pub planBytes : List (List ℕ) → List ℕ
+abbrev pub planBytes : Slots → Bytes
 planBytes slots = twoBytes (length slots) ++ slotBytes slots
 
+-- "The plan in bytes", read: the slot at a place of a plan has its count there, then its senders, and then the next slot begins
+abbrev pub nextAt : (plan : Bytes) → (at : ℕ) → ℕ
+nextAt plan at = at + 1 + getD plan at 0
+
+abbrev pub sendersAt : (plan : Bytes) → (at : ℕ) → List Node
+sendersAt plan at = take (getD plan at 0) (drop (at + 1) plan)
+
+-- "The plan in bytes", read: so many slots from a place on
+unfoldable pub slotsFrom : (plan : Bytes) → (at : ℕ) → (many : ℕ) → Slots
+slotsFrom plan at zero = []
+slotsFrom plan at (suc left) = sendersAt plan at ∷ slotsFrom plan (nextAt plan at) left
+
 -- "The plan in bytes": the buffer that a planner wants, even where the plan turns out shorter
-abbrev pub roomFor : ℕ → ℕ
+abbrev pub roomFor : (hops : ℕ) → ℕ
 roomFor hops = 2 + 2 * hops
 
 -- "The plan in bytes": room for any plan of ours, 2 + 2 × 30,240
@@ -29,5 +42,5 @@ abbrev pub decidingPlan : ℕ
 decidingPlan = 96032
 
 -- "The plan in bytes": a buffer after these bytes were written at its start; the bytes behind them stay
-abbrev pub front : List ℕ → List ℕ → List ℕ
+abbrev pub front : (buffer bytes : Bytes) → Bytes
 front buffer bytes = bytes ++ drop (length bytes) buffer

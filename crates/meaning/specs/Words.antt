@@ -1,12 +1,33 @@
 -- The words in which the definitions are told: doing something in turn, and some, the sum, the most and the list of what is below a number.
-use mathlib.Core.Bool.{Bool, true, false, cond, _||_}
+use mathlib.Core.Bool.{Bool, false, cond, _||_}
 use mathlib.Core.List.{List, [], _∷_, _++_}
 use Prim.Native.Nat.{ℕ, zero, suc, _+_, max}
+use lib.ListN.{getD}
+
+-- the bytes of a sheet, a plan or a text
+abbrev pub Bytes : Type 0
+Bytes = List ℕ
+
+-- a node's number: the gateway's or a probe's
+abbrev pub Node : Type 0
+Node = ℕ
+
+-- the senders of each slot
+abbrev pub Slots : Type 0
+Slots = List (List Node)
+
+-- which two conflict
+abbrev pub Relation : Type 0
+Relation = Node → Node → Bool
 
 -- step 0, then step 1, .. up to step (n - 1), from start
 unfoldable pub forEach : {A : Type 0} → ℕ → (ℕ → A → A) → A → A
 forEach zero step start = start
 forEach (suc k) step start = step k (forEach k step start)
+
+-- a step while it is still busy, at most n of them
+abbrev pub whileBusy : {A : Type 0} → (busy : A → Bool) → (step : A → A) → ℕ → A → A
+whileBusy busy step n start = forEach n (λ _ now. cond (busy now) (step now) now) start
 
 -- some number below n passes the test
 unfoldable pub some : ℕ → (ℕ → Bool) → Bool
@@ -35,6 +56,10 @@ tab (suc k) f = tab k f ++ (f k ∷ [])
 -- how many places a list by node has: node 0 does not exist, node 1 is the gateway, the probes are 2 to 64
 abbrev pub places : ℕ
 places = 65
+
+-- what such a list has for each node
+abbrev pub byNode : List ℕ → Node → ℕ
+byNode list v = getD list v 0
 
 -- the same over the p probes, in rising number
 abbrev pub eachProbe : {A : Type 0} → ℕ → (ℕ → A → A) → A → A

@@ -4,38 +4,38 @@ use Prim.Native.Nat.{ℕ, zero, suc, _+_, _*_}
 use lib.Dec.{eqb, leb}
 use Rattle.meaning.specs.declared.Walk.{Walk}
 use Rattle.meaning.specs.declared.Walk.the-variants.{Arrives, Never}
-use Rattle.meaning.specs.Words.{sumProbes, mostProbes}
+use Rattle.meaning.specs.Words.{Node, sumProbes, mostProbes}
 
 -- "Numbers of the yard": node 1 is the gateway, the probes are 2 to n, and n = p + 1
-abbrev pub isProbe : ℕ → ℕ → Bool
+abbrev pub isProbe : (p : ℕ) → Node → Bool
 isProbe p v = leb 2 v && leb v (p + 1)
 
 -- "Numbers of the yard": walking from parent to parent, v comes to the node top, in at most `left` hops
-unfoldable pub reaches : (ℕ → ℕ) → ℕ → ℕ → ℕ → Bool
+unfoldable pub reaches : (parent : Node → Node) → (top : Node) → (left : ℕ) → Node → Bool
 reaches parent top zero v = eqb v top
 reaches parent top (suc left) v = eqb v top || reaches parent top left (parent v)
 
 -- "Numbers of the yard": the hops that this walk takes to the gateway, where at most `left` are walked
-unfoldable pub climb : (ℕ → ℕ) → ℕ → ℕ → ℕ
+unfoldable pub climb : (parent : Node → Node) → (left : ℕ) → Node → ℕ
 climb parent zero v = 0
 climb parent (suc left) v = cond (eqb v 1) 0 (suc (climb parent left (parent v)))
 
 -- "Numbers of the yard": where this walk ends: it arrives with its level, or has not arrived when no hops are left
-unfoldable pub climbed : (ℕ → ℕ) → ℕ → ℕ → Walk
+unfoldable pub climbed : (parent : Node → Node) → (left : ℕ) → Node → Walk
 climbed parent left v = cond (reaches parent 1 left v) (Arrives (record { 0 = climb parent left v })) Never
 
 -- "Numbers of the yard": the level of a probe; a walk that arrives has at most p hops
-abbrev pub levelBy : ℕ → (ℕ → ℕ) → ℕ → ℕ
+abbrev pub levelBy : (p : ℕ) → (parent : Node → Node) → Node → ℕ
 levelBy p parent v = cond (isProbe p v) (climb parent p v) 0
 
 -- "Numbers of the yard": hops, the sum over all probes of packets times level
-abbrev pub hopsOf : ℕ → (ℕ → ℕ) → (ℕ → ℕ) → ℕ
+abbrev pub hopsOf : (p : ℕ) → (packets level : Node → ℕ) → ℕ
 hopsOf p packets level = sumProbes p (λ v. packets v * level v)
 
 -- Demand 3: the packets of a branch, which is its top probe and every probe below it
-abbrev pub branchPackets : ℕ → (ℕ → ℕ) → (ℕ → ℕ) → ℕ → ℕ
+abbrev pub branchPackets : (p : ℕ) → (parent : Node → Node) → (packets : Node → ℕ) → (top : Node) → ℕ
 branchPackets p parent packets top = sumProbes p (λ v. cond (reaches parent top p v) (packets v) 0)
 
 -- "The lister": the packets of the heaviest branch, 0 with no probes
-abbrev pub heaviestOf : ℕ → (ℕ → ℕ) → (ℕ → ℕ) → ℕ
+abbrev pub heaviestOf : (p : ℕ) → (parent : Node → Node) → (packets : Node → ℕ) → ℕ
 heaviestOf p parent packets = mostProbes p (branchPackets p parent packets)

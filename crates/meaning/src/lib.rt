@@ -35,6 +35,12 @@ pub struct Outcome {
     pub place: u16,
 }
 
+// The outcome where nothing is wrong.
+pub const ACCEPTED: Outcome = Outcome {
+    number: 0,
+    place: 0,
+};
+
 // What a planner answers; the last three are 0 on refusal.
 pub struct Planned {
     pub outcome: Outcome,
@@ -53,6 +59,14 @@ pub enum Walk {
 pub struct Verdict {
     pub outcome: Outcome,
     pub slots: u16,
+}
+
+// What the telephone answers; the last three are 0 on refusal.
+pub struct Told {
+    pub outcome: Outcome,
+    pub least: u16,
+    pub ours: u16,
+    pub most: u16,
 }
 
 // Which of two plans the chooser hands back.

@@ -1,27 +1,23 @@
 -- The whole plan: never more slots than hops, and its number in front of its slots.
-use mathlib.Core.Path.{_≡_, refl, sym, ap, ap₂, _∙_, subst}
+use mathlib.Core.Path.{_≡_, ap, ap₂, _∙_}
 use mathlib.Core.Bool.{Bool, true, false, cond}
-use mathlib.Core.List.{List, [], _∷_, _++_}
-use Prim.Native.Nat.{ℕ, zero, suc, _+_, _-_, _*_, _/_, _%_, _≤_, _<_}
+use mathlib.Core.List.{List, [], _∷_}
+use Prim.Native.Nat.{ℕ, _+_, _-_, _*_, _/_, _%_, _≤_}
 use native.Mathlib.Nat.{not-suc-le-zero, le-of-suc-le-suc}
 use native.Mathlib.Omega.{arith}
 use borrow.Rule.Slice.PartMut.{putMid}
-use lib.ListN.{length, getD, take, drop, set, length-append}
-use Rattle.meaning.specs.Words.{forEach}
+use lib.ListN.{length, drop, set, length-append}
+use Rattle.meaning.specs.Words.{byNode}
 use Rattle.meaning.specs.Yard.{levelBy}
-use Rattle.meaning.specs.Plan.{front, slotBytes, planBytes, twoBytes}
-use Rattle.meaning.specs.Rounds.{Progress, Way, holds, outside, moved, recorded, round, rounds, slotFor}
+use Rattle.meaning.specs.Plan.{front, slotBytes}
+use Rattle.meaning.specs.Rounds.{Progress, Way, outside, heldAfter, recorded, turn, round, rounds}
 use Rattle.laws.proofs.Turns.{forEach-keeps}
 use Rattle.laws.proofs.Moving.{weigh}
-use Rattle.chosen.specs.TurnSlot.{byNode, turnSlot, made}
-use Rattle.plan.specs.Turn.{Ready}
-use Rattle.plan.specs.Going.{wayBy, from, slotsBy, Going, Filled}
-use Rattle.plan.proofs.Turning.{ready-next, turn-hops}
-use Rattle.plan.proofs.Going.{recorded-made, put-behind}
-
-made-most : (slot : List ℕ) → length (made slot) ≤ length slot
-made-most [] = omega arith
-made-most (v ∷ slot) = omega arith
+use Rattle.chosen.specs.TurnSlot.{turnSlots}
+use Rattle.plan.specs.ColourTurn.{Ready}
+use Rattle.plan.specs.TurnByTurn.{wayBy, from, slotsBy, Going, Filled}
+use Rattle.plan.proofs.ColourTurn.{ready-next, turn-hops}
+use Rattle.plan.proofs.TurnByTurn.{put-behind}
 
 module _ (p : ℕ) (parents : List ℕ) (table : List (List Bool)) (own : List ℕ) (m : ℕ) where
   abbrev way : Way
@@ -38,31 +34,29 @@ module _ (p : ℕ) (parents : List ℕ) (table : List (List Bool)) (own : List �
   ready-own : (held : List ℕ) (room : ℕ) → Ready p (way .parent) held room → Ready p (way .parent) held (2 * energy held)
   ready-own held room r = record { small = r .small; long = r .long; few = r .few; up = r .up; fits = omega arith }
 
-  spent-turn : (all s : ℕ) (now : Progress) → Spent all now → Spent all (recorded (way .parent) (slotFor way s (holds (now .held))) now)
-  unfolding turnSlot
+  spent-turn : (all s : ℕ) (now : Progress) → Spent all now → Spent all (recorded (way .parent) (turn way s (now .held)) now)
+  unfolding turnSlots recorded
   spent-turn all s now spent =
-      subst (λ (then : Progress). Spent all then) (sym (recorded-made (way .parent) slot now))
-      (record {
+      record {
         ready =
-            ready-own (moved (way .parent) slot (now .held)) _
+            ready-own (heldAfter (way .parent) (now .held) made) _
             (ready-next p (way .parent) (now .held) (2 * energy (now .held)) (spent .ready) (way .relation) (byNode own) s);
         fewer =
             omega (
               arith,
               spent .fewer,
-              made-most slot,
-              length-append (now .slots) (made slot),
+              length-append (now .slots) made,
               turn-hops p (way .parent) (now .held) (2 * energy (now .held)) (spent .ready) (way .relation) (byNode own) s,
             );
-      })
+      }
     where
-      slot : List ℕ
-      slot = turnSlot p (way .relation) (byNode own) s (now .held)
+      made : List (List ℕ)
+      made = turn way s (now .held)
 
   spent-round : (all : ℕ) (now : Progress) → Spent all now → Spent all (round way now)
   unfolding round
   spent-round all now spent =
-      forEach-keeps (Spent all) m (λ s then. recorded (way .parent) (slotFor way (s + 1) (holds (then .held))) then) now spent
+      forEach-keeps (Spent all) m (λ s then. recorded (way .parent) (turn way (s + 1) (then .held)) then) now spent
       (λ s _ then h. spent-turn all (s + 1) then h)
 
   -- a plan has no more slots than hops

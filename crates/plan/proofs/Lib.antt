@@ -1,7 +1,7 @@
 -- Laws that belong to no one function.
-pub mod Turning
-pub mod Going
+pub mod ColourTurn
+pub mod TurnByTurn
 pub mod Filling
 pub mod SameOwners
 pub mod Preparing
-pub mod Answering
+pub mod Answered

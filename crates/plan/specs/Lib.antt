@@ -1,3 +1,3 @@
-pub mod Turn
-pub mod Going
+pub mod ColourTurn
+pub mod TurnByTurn
 pub mod Answered

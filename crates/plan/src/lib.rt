@@ -1,17 +1,17 @@
 // The two planners: a sheet and a lent buffer in, the plan or a numbered refusal out.
 ghost use mathlib.Core.Path.{_≡_};
 ghost use mathlib.Core.Bool.{cond};
-ghost use Prim.Native.Nat.{ℕ, _-_, _≤_, _<_};
+ghost use Prim.Native.Nat.{_-_, _≤_, _<_};
 ghost use lib.Dec.{eqb, ltb};
 ghost use lib.ListN.{length, getD};
-ghost use Rattle.meaning.specs.Words.{tab, places};
-ghost use Rattle.meaning.specs.Plan.{roomFor};
-ghost use Rattle.meaning.specs.Answer.{given, _then_, planAnswer, planBuffer};
+ghost use Rattle.meaning.specs.Words.{tab, places, byNode};
+ghost use Rattle.meaning.specs.Plan.{roomFor, front};
+ghost use Rattle.meaning.specs.Answer.{given, _then_, planMade};
 ghost use Rattle.meaning.specs.Rounds.{rounds, byProbe, byLevel};
 ghost use Rattle.laws.proofs.Moving.{weigh};
-ghost use Rattle.chosen.specs.TurnSlot.{byNode, slotBy};
-ghost use Rattle.plan.specs.Turn.{Ready, Turned};
-ghost use Rattle.plan.specs.Going.{wayBy, from, roundOf, Going, slotsBy, Filled};
+ghost use Rattle.chosen.specs.TurnSlot.{turnBy};
+ghost use Rattle.plan.specs.ColourTurn.{Ready, Turned};
+ghost use Rattle.plan.specs.TurnByTurn.{wayBy, from, roundOf, Going, slotsBy, Filled};
 ghost use Rattle.plan.specs.Answered.{prepared, Finished};
 ghost use Rattle.meaning.specs.Yard.{levelBy};
 use meaning::Colour;
@@ -36,7 +36,7 @@ fn turn(
     rest: &mut [u8],
 ) -> usize
     requires { ⌜ Ready p (byNode (now parents)) (now held) (length (now rest)) ⌝ }
-    ensures { λ r. ⌜ Turned (byNode (now (parents .entry))) (slotBy p (now (table .entry)) (now (own .entry)) (s .0) (now (held .entry)))
+    ensures { λ r. ⌜ Turned (byNode (now (parents .entry))) (turnBy p (now (table .entry)) (now (own .entry)) (s .0) (now (held .entry)))
         (now (held .entry)) (now (held .exit)) (now (rest .entry)) (now (rest .exit)) r ⌝ }
 {
     let bytes = chosen::write_slot(rest, p, table, own, s, held);
@@ -156,10 +156,7 @@ fn room_test(outcome: Outcome, room: usize, hops: u32) -> Outcome
             place: 0,
         };
     }
-    Outcome {
-        number: 0,
-        place: 0,
-    }
+    meaning::ACCEPTED
 }
 
 // Reads the sheet and tests the room.
@@ -175,8 +172,8 @@ fn prepare(sheet: &[u8], room: usize) -> Tree
 // Fills the buffer with the plan and answers for it.
 fn finish(tree: Tree, table: [[bool; 65]; 65], own: [u8; 65], m: u8, buf: &mut [u8]) -> Planned
     requires two { ⌜ 2 ≤ length (now buf) ⌝ }
-    requires ready { ⌜ Ready (tree .probes) (λ u. getD (tree .parents) u 0) (tree .packets) (length (now buf) - 2) ⌝ }
-    requires few { ⌜ weigh (levelBy (tree .probes) (λ u. getD (tree .parents) u 0)) (tree .packets) ≤ 65535 ⌝ }
+    requires ready { ⌜ Ready (tree .probes) (byNode (tree .parents)) (tree .packets) (length (now buf) - 2) ⌝ }
+    requires few { ⌜ weigh (levelBy (tree .probes) (byNode (tree .parents))) (tree .packets) ≤ 65535 ⌝ }
     ensures { λ r. ⌜ Finished (slotsBy (tree .probes) (tree .parents) table own m (tree .hops) (tree .packets)) m (now (buf .entry)) (now (buf .exit)) r ⌝ }
 {
     let p = tree.probes;
@@ -191,10 +188,7 @@ fn finish(tree: Tree, table: [[bool; 65]; 65], own: [u8; 65], m: u8, buf: &mut [
         });
     }
     Planned {
-        outcome: Outcome {
-            number: 0,
-            place: 0,
-        },
+        outcome: meaning::ACCEPTED,
         colours: m,
         slots: slots as u16,
         bytes: made.bytes,
@@ -216,8 +210,8 @@ fn colours_by_level(levels: [u8; 65], colours: [u8; 65]) -> [u8; 65]
 
 // The plan by probe of any sheet, into any buffer, or a numbered refusal.
 pub fn by_probe(sheet: &[u8], buf: &mut [u8]) -> Planned
-    ensures answer { λ r. ⌜ r ≡ planAnswer (now (sheet .entry)) (byProbe (now (sheet .entry))) (length (now (buf .entry))) ⌝ }
-    ensures buffer { λ _. ⌜ now (buf .exit) ≡ planBuffer (now (sheet .entry)) (byProbe (now (sheet .entry))) (now (buf .entry)) ⌝ }
+    ensures answer { λ r. ⌜ r ≡ planMade byProbe (now (sheet .entry)) (length (now (buf .entry))) .answer ⌝ }
+    ensures buffer { λ _. ⌜ now (buf .exit) ≡ front (now (buf .entry)) (planMade byProbe (now (sheet .entry)) (length (now (buf .entry))) .written) ⌝ }
 {
     let tree = prepare(sheet, buf.len());
     let outcome = tree.outcome;
@@ -234,8 +228,8 @@ pub fn by_probe(sheet: &[u8], buf: &mut [u8]) -> Planned
 
 // The plan by level of any sheet, into any buffer, or a numbered refusal.
 pub fn by_level(sheet: &[u8], buf: &mut [u8]) -> Planned
-    ensures answer { λ r. ⌜ r ≡ planAnswer (now (sheet .entry)) (byLevel (now (sheet .entry))) (length (now (buf .entry))) ⌝ }
-    ensures buffer { λ _. ⌜ now (buf .exit) ≡ planBuffer (now (sheet .entry)) (byLevel (now (sheet .entry))) (now (buf .entry)) ⌝ }
+    ensures answer { λ r. ⌜ r ≡ planMade byLevel (now (sheet .entry)) (length (now (buf .entry))) .answer ⌝ }
+    ensures buffer { λ _. ⌜ now (buf .exit) ≡ front (now (buf .entry)) (planMade byLevel (now (sheet .entry)) (length (now (buf .entry))) .written) ⌝ }
 {
     let tree = prepare(sheet, buf.len());
     let outcome = tree.outcome;

@@ -3,6 +3,6 @@ pub mod Records
 pub mod Scan
 pub mod Counts
 pub mod Parts
-pub mod Walking
+pub mod AllWalks
 pub mod Reading
 pub mod Standing

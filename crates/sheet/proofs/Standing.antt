@@ -1,15 +1,16 @@
 -- What the tree of a sheet says: the definition opened, for a sheet that is accepted. Its conflict table is then the sheet's.
-use mathlib.Core.Path.{_≡_, refl, ap, ap₂, _∙_}
+use mathlib.Core.Path.{_≡_, refl, ap, ap₂, _∙_, fun-ext}
 use mathlib.Core.Bool.{Bool, true, false, cond}
 use mathlib.Core.List.{List}
 use Prim.Native.Nat.{ℕ}
 use lib.ListN.{getD}
-use Rattle.meaning.specs.Words.{tab, places}
-use Rattle.meaning.specs.Sheet.{probeCount, pairCount, pairRecords, parentOf, packetsOf, hops, interfere}
+use Rattle.meaning.specs.Words.{tab, places, sumProbes}
+use Rattle.meaning.specs.Yard.{heaviestOf}
+use Rattle.meaning.specs.Sheet.{probeCount, pairCount, pairRecords, parentOf, packetsOf, hops, allPackets, heaviest, interfere}
 use Rattle.meaning.specs.Conflict.{tableOf, conflict, conflictTable}
 use Rattle.meaning.specs.Colour.{levels}
 use Rattle.meaning.specs.Answer.{isAccepted, sheetTest}
-use Rattle.laws.proofs.Grounds.{parent-read}
+use Rattle.laws.proofs.Grounds.{parent-read, packets-read}
 use Rattle.sheet.specs.declared.Tree.{Tree}
 use Rattle.sheet.specs.Tree.{refusedTree, acceptedTree, treeOf}
 
@@ -49,6 +50,20 @@ module _ (s : List ℕ) (ok : isAccepted (sheetTest s) ≡ true) where
     -- the parents, read at any number
     pub parents-read : (λ (v : ℕ). getD (tree .parents) v 0) ≡ parentOf s
     parents-read = ap {B = ℕ → ℕ} (λ (l : List ℕ). λ v. getD l v 0) (its .parents) ∙ parent-read s ok
+
+    -- the packets likewise, all of them, and those of the heaviest branch
+    each-packets : (λ (v : ℕ). getD (tree .packets) v 0) ≡ packetsOf s
+    each-packets = fun-ext (λ v. ap (λ (l : List ℕ). getD l v 0) (its .packets) ∙ packets-read s ok v)
+
+    pub all-packets-read : sumProbes (tree .probes) (λ v. getD (tree .packets) v 0) ≡ allPackets s
+    unfolding allPackets
+    all-packets-read = ap₂ (λ (p : ℕ) (f : ℕ → ℕ). sumProbes p f) (its .probes) each-packets
+
+    pub heaviest-read : heaviestOf (tree .probes) (λ v. getD (tree .parents) v 0) (λ v. getD (tree .packets) v 0) ≡ heaviest s
+    unfolding heaviest
+    heaviest-read =
+        ap₂ (λ (p : ℕ) (up : ℕ → ℕ). heaviestOf p up (λ v. getD (tree .packets) v 0)) (its .probes) parents-read
+        ∙ ap (λ (f : ℕ → ℕ). heaviestOf (probeCount s) (parentOf s) f) each-packets
 
     -- "Conflicts": the conflict table that is made of a tree and the sheet's pairs is the sheet's
     pub conflicts-read : (table : List (List Bool))

@@ -6,11 +6,12 @@ use lib.ListN.{getD, replicate}
 use Rattle.meaning.specs.declared.Outcome.{Outcome}
 use Rattle.sheet.specs.declared.Tree.{Tree}
 use Rattle.sheet.specs.declared.Walks.{Walks}
+use Rattle.meaning.specs.declared.Walk.the-variants.{Never}
 use Rattle.meaning.specs.Words.{tab, places}
 use Rattle.meaning.specs.Yard.{isProbe, levelBy}
 use Rattle.meaning.specs.Sheet.{probeCount, parentOf, packetsOf, hops}
 use Rattle.meaning.specs.Colour.{levels}
-use Rattle.meaning.specs.Answer.{isAccepted, inOrder, walkTest, sheetTest}
+use Rattle.meaning.specs.Answer.{isAccepted, inOrder, walkGives, walkTest, sheetTest}
 
 -- "Numbers returned": a number of the sheet as a whole has place 0
 abbrev pub ofTheSheet : ℕ → Outcome
@@ -28,7 +29,7 @@ walksOf parent p =
 
 -- the walks of a yard whose first probe that never arrives is v
 abbrev pub strayed : ℕ → Walks
-strayed v = record { outcome = record { number = 6; place = v }; levels = replicate places 0 }
+strayed v = record { outcome = walkGives v Never; levels = replicate places 0 }
 
 -- what a refused sheet is read as: its outcome, and no yard
 abbrev pub refusedTree : Outcome → Tree

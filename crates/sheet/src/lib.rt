@@ -3,8 +3,8 @@ ghost use mathlib.Core.Path.{_≡_};
 ghost use Prim.Native.Nat.{_<_, _≤_};
 ghost use mathlib.Core.Bool.{_||_, _&&_};
 ghost use lib.Dec.{eqb, ltb, leb};
-ghost use lib.ListN.{getD, drop};
-ghost use Rattle.meaning.specs.Words.{tab, places};
+ghost use lib.ListN.{drop};
+ghost use Rattle.meaning.specs.Words.{tab, places, byNode};
 ghost use Rattle.meaning.specs.Sheet.{probeRecords, pairCountAt, pairCount, pairRecords, interfere};
 ghost use Rattle.meaning.specs.Conflict.{conflict, tableOf};
 ghost use Rattle.meaning.specs.Answer.{inOrder, probeTest, pairTest, countsTest};
@@ -140,25 +140,21 @@ fn probe_test(records: &[u8], p: u8, k: u8) -> Outcome
             place: probe,
         };
     }
-    Outcome {
-        number: 0,
-        place: 0,
-    }
+    meaning::ACCEPTED
 }
 
 // The probes' tests in rising number, up to the first that gives a number.
 fn probes_test(records: &[u8], p: u8) -> Outcome
     ensures { λ r. ⌜ r ≡ inOrder p (probeTest (now (records .entry)) p) ⌝ }
 {
-    let mut found = Outcome {
-        number: 0,
-        place: 0,
-    };
-    for k in 0..p {
+    let mut found = meaning::ACCEPTED;
+    let mut k: u8 = 0;
+    while k < p {
         found = probe_test(records, p, k);
         if found.number != 0 {
             return found;
         }
+        k += 1;
     }
     found
 }
@@ -184,8 +180,10 @@ fn by_node(records: &[u8], p: u8, side: usize) -> [u8; 65]
     ensures { λ r. ⌜ r ≡ tab places (recordByte (now (records .entry)) p side) ⌝ }
 {
     let mut table = [0u8; 65];
-    for v in 0..65 {
+    let mut v = 0;
+    while v < 65 {
         table[v] = record_byte(records, p, side, v);
+        v += 1;
     }
     table
 }
@@ -220,10 +218,11 @@ fn strayed(probe: Probe) -> Walks
 // The probes' walks in rising number, up to the first that never arrives: 6, or the level of each.
 fn walks_test(parents: &[u8; 65], p: u8) -> Walks
     requires { ⌜ p ≤ 63 ⌝ }
-    ensures { λ r. ⌜ r ≡ walksOf (λ v. getD (now (parents .entry)) v 0) p ⌝ }
+    ensures { λ r. ⌜ r ≡ walksOf (byNode (now (parents .entry))) p ⌝ }
 {
     let mut levels = [0u8; 65];
-    for k in 0..p {
+    let mut k: u8 = 0;
+    while k < p {
         let probe = k + 2;
         match walk::climb(parents, Node(probe), p) {
             Walk::Arrives(level) => {
@@ -233,12 +232,10 @@ fn walks_test(parents: &[u8; 65], p: u8) -> Walks
                 return strayed(Probe(probe));
             }
         }
+        k += 1;
     }
     Walks {
-        outcome: Outcome {
-            number: 0,
-            place: 0,
-        },
+        outcome: meaning::ACCEPTED,
         levels,
     }
 }
@@ -272,10 +269,7 @@ fn pair_test(records: &[u8], p: u8, k: u16) -> Outcome
         };
     }
     if k == 0 {
-        return Outcome {
-            number: 0,
-            place: 0,
-        };
+        return meaning::ACCEPTED;
     }
     let before = 2 * (k as usize - 1);
     if rises(
@@ -284,10 +278,7 @@ fn pair_test(records: &[u8], p: u8, k: u16) -> Outcome
         a,
         b,
     ) {
-        return Outcome {
-            number: 0,
-            place: 0,
-        };
+        return meaning::ACCEPTED;
     }
     Outcome {
         number: 8,
@@ -299,15 +290,14 @@ fn pair_test(records: &[u8], p: u8, k: u16) -> Outcome
 fn pairs_test(records: &[u8], p: u8, q: u16) -> Outcome
     ensures { λ r. ⌜ r ≡ inOrder q (pairTest (now (records .entry)) p) ⌝ }
 {
-    let mut found = Outcome {
-        number: 0,
-        place: 0,
-    };
-    for k in 0..q {
+    let mut found = meaning::ACCEPTED;
+    let mut k: u16 = 0;
+    while k < q {
         found = pair_test(records, p, k);
         if found.number != 0 {
             return found;
         }
+        k += 1;
     }
     found
 }
@@ -365,7 +355,7 @@ pub fn read(sheet: &[u8]) -> Tree
 
 // The conflict table of a sheet, by its tree; its pairs are handed on as they stand.
 pub fn conflicts(sheet: &[u8], p: u8, parents: [u8; 65]) -> [[bool; 65]; 65]
-    ensures { λ r. ⌜ r ≡ tableOf (conflict p (λ v. getD parents v 0) (interfere (pairRecords (now (sheet .entry))) (pairCount (now (sheet .entry))))) ⌝ }
+    ensures { λ r. ⌜ r ≡ tableOf (conflict p (byNode parents) (interfere (pairRecords (now (sheet .entry))) (pairCount (now (sheet .entry))))) ⌝ }
 {
     conflict::table(p, parents, pair_records(sheet), pair_count(sheet))
 }

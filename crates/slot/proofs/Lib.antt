@@ -2,5 +2,4 @@
 pub mod Places
 pub mod Looking
 pub mod Tests
-pub mod Senders
-pub mod Moving
+pub mod Within

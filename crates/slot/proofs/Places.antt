@@ -1,11 +1,12 @@
 -- Where a slot stands: within the plan the place is as it is, and past the end it is the end; so the part that a caller lends from the middle of the
--- plan is the slot.
+-- plan is the slot, and a plan that ends early has the senders that are there.
 use mathlib.Core.Path.{_≡_, sym, ap, ap₂, _∙_}
 use mathlib.Core.List.{List}
-use Prim.Native.Nat.{ℕ, _+_, _-_, _≤_, min}
+use Prim.Native.Nat.{ℕ, _+_, _-_, _≤_, _<_, min}
 use native.Mathlib.Omega.{arith}
-use lib.ListN.{length, getD, take, drop, List·getD-eq-default}
-use Rattle.meaning.specs.Judge.{nextAt, sendersAt}
+use lib.ListN.{length, getD, take, drop, length-drop, drop-of-length-le, List·getD-eq-default}
+use lib.Seq.{take-all, take-nil}
+use Rattle.meaning.specs.Plan.{nextAt, sendersAt}
 use Rattle.slot.specs.declared.SlotAt.{SlotAt}
 use Rattle.slot.specs.Place.{slotAt}
 
@@ -45,3 +46,23 @@ module _ (plan : List ℕ) (at : ℕ) (here : SlotAt) (is : here ≡ slotAt plan
   slot-read =
       let many : here .next - here .first ≡ getD plan at 0 = omega (arith, first-read, next-read) in
       ap₂ (λ (m from : ℕ). take m (drop from plan)) many first-read
+
+-- past the end of a plan nobody sends
+pub senders-past : (plan : List ℕ) (at : ℕ) → length plan ≤ at → take (length plan - length plan) (drop (length plan) plan) ≡ sendersAt plan at
+senders-past plan at h =
+    ap (take (length plan - length plan)) (drop-of-length-le plan {i = length plan} (omega arith))
+    ∙ take-nil (length plan - length plan)
+    ∙ sym (ap (take (getD plan at 0)) (drop-of-length-le plan {i = at + 1} (omega arith)) ∙ take-nil (getD plan at 0))
+
+-- a slot that the plan cuts short has the senders that are there
+pub senders-short : (plan : List ℕ) (at : ℕ) → length plan < at + 1 + getD plan at 0 → take (length plan - (at + 1)) (drop (at + 1) plan) ≡ sendersAt plan at
+senders-short plan at h =
+    let long = length-drop (at + 1) plan in
+    take-all (length plan - (at + 1)) (drop (at + 1) plan) (omega (arith, long))
+    ∙ sym (take-all (getD plan at 0) (drop (at + 1) plan) (omega (arith, long)))
+
+-- any other stands there whole
+pub senders-whole : (plan : List ℕ) (at : ℕ) → take (at + 1 + getD plan at 0 - (at + 1)) (drop (at + 1) plan) ≡ sendersAt plan at
+senders-whole plan at =
+    let many : at + 1 + getD plan at 0 - (at + 1) ≡ getD plan at 0 = omega arith in
+    ap (λ (k : ℕ). take k (drop (at + 1) plan)) many

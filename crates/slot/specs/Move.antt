@@ -1,4 +1,4 @@
--- Moving packets for any parents, any senders and whatever is held. Of a slot that may be sent it is the meaning's `moved` (proofs/Moving.antt).
+-- Moving packets for any parents, any senders and whatever is held. Of a slot that may be sent it is the meaning's `moved` (proofs/Within.antt).
 use mathlib.Core.Bool.{Bool, cond, _&&_}
 use mathlib.Core.List.{List, [], _∷_}
 use Prim.Native.Nat.{ℕ}

@@ -2,7 +2,7 @@
 use mathlib.Core.List.{List}
 use Prim.Native.Nat.{ℕ, _+_, min}
 use lib.ListN.{length, getD}
-use Rattle.meaning.specs.Judge.{nextAt}
+use Rattle.meaning.specs.Plan.{nextAt}
 use Rattle.slot.specs.declared.SlotAt.{SlotAt}
 
 -- "The plan in bytes": where the senders of the slot at a place begin, how many they are, and where the next slot begins; a place past the

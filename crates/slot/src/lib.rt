@@ -1,15 +1,17 @@
 // What is done with a slot: where it stands in a plan, its test, moving its packets, and whether any packet is outside the gateway.
 ghost use mathlib.Core.Path.{_≡_};
-ghost use Prim.Native.Nat.{_≤_};
+ghost use Prim.Native.Nat.{_≤_, _<_};
 ghost use lib.ListN.{getD};
+ghost use Rattle.meaning.specs.Words.{byNode};
 ghost use Rattle.meaning.specs.Yard.{isProbe};
 ghost use Rattle.meaning.specs.Sheet.{twoAt};
+ghost use Rattle.meaning.specs.Plan.{sendersAt};
 ghost use Rattle.meaning.specs.Conflict.{entry};
 ghost use Rattle.meaning.specs.Rounds.{outside};
-ghost use Rattle.meaning.specs.Judge.{slotTest};
+ghost use Rattle.meaning.specs.Judge.{someNoProbe, someNotRising, someNoPacket, someConflict, slotTest};
 ghost use Rattle.laws.specs.Few.{atMost63};
 ghost use Rattle.slot.specs.Place.{slotAt};
-ghost use Rattle.slot.specs.Test.{someNoProbe, someNotRising, someNoPacket, someConflict, Nodes};
+ghost use Rattle.slot.specs.SlotSenders.{Nodes, loneTest};
 ghost use Rattle.slot.specs.Move.{hopWithin, movedWithin};
 use meaning::Outcome;
 use meaning::Probe;
@@ -42,19 +44,36 @@ pub fn slot_at(plan: &[u8], at: usize) -> SlotAt
     }
 }
 
+// The senders of the slot at a place of a plan: those that stand there where the plan cuts it short, none past its end.
+pub fn senders_at(plan: &[u8], at: usize) -> &[u8]
+    ensures { λ r. ⌜ now r ≡ sendersAt (now (plan .entry)) at ⌝ }
+{
+    let end = plan.len();
+    if end <= at {
+        return &plan[end..];
+    }
+    let first = at + 1;
+    let next = first + plan[at] as usize;
+    if end < next {
+        return &plan[first..];
+    }
+    &plan[first..next]
+}
+
 // How many slots a plan says it has.
 pub fn slot_count(plan: &[u8]) -> u16
-    ensures { λ r. ⌜ r ≡ twoAt (now (plan .entry)) 0 ⌝ }
+    ensures answer { λ r. ⌜ r ≡ twoAt (now (plan .entry)) 0 ⌝ }
+    ensures bytes { λ _. ⌜ (getD (now (plan .entry)) 0 0 < 256) × (getD (now (plan .entry)) 1 0 < 256) ⌝ }
 {
     256 * (laws::number_at(plan, 0) as u16) + laws::number_at(plan, 1) as u16
 }
 
-// Whether a sender is one of the probes 2 to p + 1.
+// Whether a sender is one of the probes 2 to p + 1, by one comparison: 254 for less 2, which wraps a byte below 2 above any p.
 fn is_probe(p: u8, sender: u8) -> bool
     requires { ⌜ p ≤ 63 ⌝ }
     ensures { λ r. ⌜ r ≡ isProbe p sender ⌝ }
 {
-    (2 <= sender) & (sender <= p + 1)
+    (sender as u16 + 254) % 256 < p as u16
 }
 
 // 12: some sender is no probe.
@@ -125,6 +144,21 @@ fn two_conflict(table: &[[bool; 65]; 65], slot: &[u8]) -> bool
     found
 }
 
+// 12 and 14 of a slot with one sender, the usual slot of a crowded yard: 13 and 15 want two.
+fn lone_test(p: u8, held: &[u16; 65], number: Slot, sender: u8) -> Outcome
+    ensures { λ r. ⌜ r ≡ loneTest (atMost63 p) (now (held .entry)) (number .0) sender ⌝ }
+{
+    let place = number.0;
+    if !is_probe(laws::at_most_63(p), sender) {
+        return Outcome { number: 12, place };
+    }
+    let node = sender as usize;
+    if held[node] == 0 {
+        return Outcome { number: 14, place };
+    }
+    meaning::ACCEPTED
+}
+
 // 12 to 15 of one slot, each over the whole slot before the next.
 pub fn slot_test(
     p: u8,
@@ -135,6 +169,9 @@ pub fn slot_test(
 ) -> Outcome
     ensures { λ r. ⌜ r ≡ slotTest (atMost63 p) (entry (now (table .entry))) (now (held .entry)) (number .0) (now (slot .entry)) ⌝ }
 {
+    if slot.len() == 1 {
+        return lone_test(p, held, number, slot[0]);
+    }
     let place = number.0;
     if no_probe(p, slot) {
         return Outcome { number: 12, place };
@@ -148,15 +185,12 @@ pub fn slot_test(
     if two_conflict(table, slot) {
         return Outcome { number: 15, place };
     }
-    Outcome {
-        number: 0,
-        place: 0,
-    }
+    meaning::ACCEPTED
 }
 
 // Moves one packet of a sender to its parent; where one of them has no place, the sender no packet or the parent no room, nothing moves.
 fn hop(parents: &[u8; 65], sender: Probe, held: &mut [u16; 65])
-    ensures { λ _. ⌜ now (held .exit) ≡ hopWithin (λ u. getD (now (parents .entry)) u 0) (sender .0) (now (held .entry)) ⌝ }
+    ensures { λ _. ⌜ now (held .exit) ≡ hopWithin (byNode (now (parents .entry))) (sender .0) (now (held .entry)) ⌝ }
 {
     let from = sender.0 as usize;
     if 65 <= from {
@@ -177,10 +211,14 @@ fn hop(parents: &[u8; 65], sender: Probe, held: &mut [u16; 65])
     held[up] += 1;
 }
 
-// Moves a packet of each sender, in turn.
+// Moves a packet of each sender, in turn; a lone one needs no loop.
 pub fn move_packets(parents: &[u8; 65], slot: &[u8], held: &mut [u16; 65])
-    ensures { λ _. ⌜ now (held .exit) ≡ movedWithin (λ u. getD (now (parents .entry)) u 0) (now (slot .entry)) (now (held .entry)) ⌝ }
+    ensures { λ _. ⌜ now (held .exit) ≡ movedWithin (byNode (now (parents .entry))) (now (slot .entry)) (now (held .entry)) ⌝ }
 {
+    if slot.len() == 1 {
+        hop(parents, Probe(slot[0]), held);
+        return;
+    }
     let mut i = 0;
     while i < slot.len() {
         hop(parents, Probe(slot[i]), held);

@@ -2,7 +2,7 @@
 ghost use mathlib.Core.Path.{_≡_};
 ghost use Prim.Native.Nat.{_*_, _≤_};
 ghost use lib.ListN.{getD};
-ghost use Rattle.meaning.specs.Words.{mostProbes};
+ghost use Rattle.meaning.specs.Words.{mostProbes, byNode};
 ghost use Rattle.meaning.specs.Yard.{climbed, hopsOf};
 use meaning::Level;
 use meaning::Node;
@@ -10,7 +10,7 @@ use meaning::Walk;
 
 // Where the walk from a node ends, which has `left` hops to take.
 pub fn climb(parents: &[u8; 65], v: Node, left: u8) -> Walk
-    ensures { λ r. ⌜ r ≡ climbed (λ u. getD (now (parents .entry)) u 0) left (v .0) ⌝ }
+    ensures { λ r. ⌜ r ≡ climbed (byNode (now (parents .entry))) left (v .0) ⌝ }
 {
     let node = v.0;
     if node == 1 {
@@ -36,7 +36,7 @@ fn hops_at(packets: &[u8; 65], levels: &[u8; 65], v: usize) -> u32
 
 // The sum over all probes of packets times level.
 pub fn hops(p: u8, packets: &[u8; 65], levels: &[u8; 65]) -> u32
-    ensures { λ r. ⌜ r ≡ hopsOf p (λ v. getD (now (packets .entry)) v 0) (λ v. getD (now (levels .entry)) v 0) ⌝ }
+    ensures { λ r. ⌜ r ≡ hopsOf p (byNode (now (packets .entry))) (byNode (now (levels .entry))) ⌝ }
 {
     let mut hops: u32 = 0;
     let mut k: u8 = 0;
@@ -49,7 +49,7 @@ pub fn hops(p: u8, packets: &[u8; 65], levels: &[u8; 65]) -> u32
 
 // The deepest level of a probe, 0 with no probes.
 pub fn depth(p: u8, levels: &[u8; 65]) -> Level
-    ensures { λ r. ⌜ r ≡ record { 0 = mostProbes p (λ v. getD (now (levels .entry)) v 0) } ⌝ }
+    ensures { λ r. ⌜ r ≡ record { 0 = mostProbes p (byNode (now (levels .entry))) } ⌝ }
 {
     let mut deepest: u8 = 0;
     let mut k: u8 = 0;

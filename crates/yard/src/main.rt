@@ -1,10 +1,7 @@
 // The front door: plans, judges, chooses and lists by file names. The first word of an answer is fixed, so that a script can go by it.
 ghost use Rattle.io.specs.Counts.{Counts};
 use libc::STDOUT_FILENO;
-use meaning::Choice;
-use meaning::Outcome;
 use meaning::Planned;
-use meaning::Verdict;
 
 // What is asked for.
 enum Command {
@@ -19,72 +16,6 @@ enum Command {
 // Writes to standard output.
 fn say(text: &[u8]) {
     io::write_all(STDOUT_FILENO, text);
-}
-
-// Writes words and then a number.
-fn say_number(words: &[u8], n: u64) {
-    say(words);
-    io::print_decimal(STDOUT_FILENO, n);
-}
-
-// No proved answer has such a number; it is not given another's words.
-fn say_unknown() {
-    say(b"no number of docs/NUMBERS.md");
-}
-
-// What a refusal's number says of the sheet, in the words of docs/NUMBERS.md.
-fn say_sheet(number: u8) {
-    match number {
-        1 => say(b"the sheet ends too early"),
-        2 => say(b"the sheet counts more than 63 probes, or more pairs than its nodes have"),
-        3 => say(b"bytes stand behind the sheet"),
-        4 => say(b"the probe's parent is 0, the probe itself, or no node of the yard"),
-        5 => say(b"the probe has no packet, or more than 15"),
-        6 => say(b"the walk from the probe to its parents never reaches the gateway"),
-        7 => say(b"the pair does not name two nodes of the yard, the smaller first"),
-        8 => say(b"the pair is not above the one before it"),
-        _ => say_unknown(),
-    }
-}
-
-// What it says of a slot.
-fn say_slot(number: u8) {
-    match number {
-        12 => say(b"a sender of the slot is no probe of the yard"),
-        13 => say(b"the senders of the slot do not rise"),
-        14 => say(b"a sender of the slot holds no packet"),
-        15 => say(b"two senders of the slot conflict"),
-        _ => say_unknown(),
-    }
-}
-
-// What it says of a plan as a whole, or of the buffer for one.
-fn say_plan(number: u8) {
-    match number {
-        9 => say(b"the plan buffer is shorter than this yard wants"),
-        10 => say(b"the plan has more than 65,535 slots"),
-        11 => say(b"the plan ends too early"),
-        16 => say(b"bytes stand behind the last slot"),
-        17 => say(b"packets are left outside the gateway"),
-        _ => say_unknown(),
-    }
-}
-
-fn say_meaning(number: u8) {
-    match number {
-        0..=8 => say_sheet(number),
-        12..=15 => say_slot(number),
-        _ => say_plan(number),
-    }
-}
-
-// A refusal: its number and place, and the number in plain words.
-fn say_refused(outcome: Outcome) {
-    say_number(b"refused ", outcome.number as u64);
-    say_number(b" ", outcome.place as u64);
-    say(b": ");
-    say_meaning(outcome.number);
-    say(b"\n");
 }
 
 fn say_usage() {
@@ -202,7 +133,9 @@ fn list(sheet: &[u8]) {
     let tree = sheet::read(sheet);
     let outcome = tree.outcome;
     if outcome.number != 0 {
-        say_refused(outcome);
+        let mut line = [0u8; wording::ANY_ANSWER];
+        let n = wording::refused(&mut line, outcome);
+        say(&line[..n]);
         return;
     }
     let mut text = [0u8; meaning::ANY_TEXT];
@@ -213,18 +146,15 @@ fn list(sheet: &[u8]) {
 // Writes the plan that was made to the file of argument 3, and says what it has; a refusal leaves the file alone.
 fn write_plan(planned: Planned, plan: &[u8]) {
     let outcome = planned.outcome;
-    if outcome.number != 0 {
-        say_refused(outcome);
-        return;
+    if outcome.number == 0 {
+        let n = within(planned.bytes, plan);
+        if !write_file(3, &plan[..n]) {
+            return;
+        }
     }
-    let n = within(planned.bytes, plan);
-    if !write_file(3, &plan[..n]) {
-        return;
-    }
-    say_number(b"planned ", planned.slots as u64);
-    say_number(b" slots, ", planned.colours as u64);
-    say_number(b" colours, ", planned.bytes as u64);
-    say(b" bytes\n");
+    let mut line = [0u8; wording::ANY_ANSWER];
+    let m = wording::planned(&mut line, planned);
+    say(&line[..m]);
 }
 
 fn plan_by_probe(sheet: &[u8]) {
@@ -239,17 +169,6 @@ fn plan_by_level(sheet: &[u8]) {
     write_plan(planned, &plan);
 }
 
-// Says a verdict.
-fn say_verdict(verdict: Verdict) {
-    let outcome = verdict.outcome;
-    if outcome.number != 0 {
-        say_refused(outcome);
-        return;
-    }
-    say_number(b"passed ", verdict.slots as u64);
-    say(b" slots\n");
-}
-
 // Judges the plan in the file of argument 3; its first 96,032 bytes decide every verdict.
 fn judge(sheet: &[u8]) {
     let mut plan = [0u8; meaning::DECIDING_PLAN];
@@ -258,21 +177,20 @@ fn judge(sheet: &[u8]) {
         return;
     }
     let n = io::count(got, &plan);
-    say_verdict(judge::judge(sheet, &plan[..n]));
+    let verdict = judge::judge(sheet, &plan[..n]);
+    let mut line = [0u8; wording::ANY_ANSWER];
+    let m = wording::verdict(&mut line, verdict);
+    say(&line[..m]);
 }
 
 // Says which of two plans was chosen, and the verdict on each.
 fn say_choice(sheet: &[u8], first: &[u8], second: &[u8]) {
     let choice = chooser::choice(sheet, first, second);
-    match choice {
-        Choice::First => say(b"first\n"),
-        Choice::Second => say(b"second\n"),
-        Choice::Neither => say(b"neither\n"),
-    }
-    say(b"first: ");
-    say_verdict(judge::judge(sheet, first));
-    say(b"second: ");
-    say_verdict(judge::judge(sheet, second));
+    let on_first = judge::judge(sheet, first);
+    let on_second = judge::judge(sheet, second);
+    let mut text = [0u8; wording::ANY_ANSWER];
+    let n = wording::chosen(&mut text, choice, on_first, on_second);
+    say(&text[..n]);
 }
 
 // Chooses between the plans in the files of arguments 3 and 4.

@@ -14,7 +14,7 @@ choose-by-requires : tie.Need-choose-by-requires
 choose-by-requires c κs = search needs
 
 returns : tie.Need-returns
-returns c = chosen _ _ _ _ _ _ (c .before .before .judge .ensures) (c .before .judge2 .ensures) (c .choose-by .ensures)
+returns c = chosen _ _ _ _ _ _ (c .before .before .judge .ensures .0) (c .before .judge2 .ensures .0) (c .choose-by .ensures)
 
 pub choice-spec : {M : Type 1} → statement M
 choice-spec = tie.close (tie.spec judge-requires judge-requires-2 choose-by-requires returns)

@@ -36,16 +36,20 @@ join-requires c κs =
     let fresh = start .pre .1 .0 in
     (start .pre .0, (ap length fresh, start .pre .1 .1 ∙ unblocked _ ∙ ap (blockedBy (entry (start .args .table .now))) (sym fresh)))
 
+any-of-requires-2 : tie.Need-any-of-requires-2
+any-of-requires-2 c κs = search needs
+
 returns-2 : tie.Need-returns-2
 returns-2 c =
-    let start = c .before .before .before .before .before .before .before .before in
+    let owning = c .before .before .before .before .before .before .before .before .before in
+    let start = owning .before in
     let a = start .args in
-    let mine = c .before .before .before .before .before .before .before .owning in
-    let join = c .join in
+    let mine = owning .owning in
+    let join = c .before .before .join in
     let last = join .last .1 .1 .1 in
-    chosen-first (a .p) (start .pre .0) (a .table .now) (a .own .now) (a .s .0) (a .held .now) (mine .result) (mine .ensures) _ _ (join .result)
-    (subst (λ (l : List Bool). Joining (entry (a .table .now)) (flag (mine .result)) l (a .p) (last .0) (last .1 .0) (join .result))
-    (start .pre .1 .0) (join .ensures))
+    chosen-first (a .p) (start .pre .0) (a .table .now) (a .own .now) (a .s .0) (a .held .now) (mine .result) (mine .ensures) _ _
+    (subst (λ (l : List Bool). Joining (entry (a .table .now)) (flag (mine .result)) l (a .p) (last .0) (last .1 .0)) (start .pre .1 .0) (join .ensures))
+    _ (c .any-of2 .ensures)
 
 pub choose-spec : {M : Type 1} → statement M
-choose-spec = tie.close (tie.spec owning-requires any-of-requires returns join-requires returns-2)
+choose-spec = tie.close (tie.spec owning-requires any-of-requires returns join-requires any-of-requires-2 returns-2)

@@ -15,17 +15,17 @@ use Rattle.chosen.proofs.join.Lts as lts
 use Rattle.chosen.proofs.consider.Reads as consider-reads
 
 abbrev Inv-loop : tie.InvT-loop
-Inv-loop p table may chosen₀ blocked₀ any₀ k₀ chosen blocked any k =
-    (k ≤ p) × Joining (entry table) (flag may) chosen₀ k chosen blocked any
+Inv-loop p table may chosen₀ blocked₀ k₀ chosen blocked k =
+    (k ≤ p) × Joining (entry table) (flag may) chosen₀ k chosen blocked
 
 abbrev μ-loop : tie.MeasureT-loop
-μ-loop p table may chosen₀ blocked₀ any₀ k₀ chosen blocked any k = p - k
+μ-loop p table may chosen₀ blocked₀ k₀ chosen blocked k = p - k
 
 loop-holds : tie.Need-loop-holds Inv-loop μ-loop
 loop-holds c = (search needs, joining-start _ _ _ _ (c .pre .1 .1))
 
-add-t10 : tie.Need-add-t10 Inv-loop μ-loop
-add-t10 c = search needs
+add-t9 : tie.Need-add-t9 Inv-loop μ-loop
+add-t9 c = search needs
 
 consider-requires : tie.Need-consider-requires Inv-loop μ-loop
 consider-requires c κs =
@@ -42,14 +42,14 @@ loop-less c = search needs
 loop-again : tie.Need-loop-again Inv-loop μ-loop
 loop-again c =
     let l = c .before .before .before .before .loop in
-    (search needs, joining-next _ _ _ (l .k) (l .chosen) (l .blocked) (l .any) (l .inv .1) _ _ _ (c .consider .ensures))
+    (search needs, joining-next _ _ _ (l .k) (l .chosen) (l .blocked) (l .inv .1) _ _ (c .consider .ensures))
 
 returns : tie.Need-returns Inv-loop μ-loop
 returns c =
     let a = c .before .before .args in
     let l = c .before .loop in
     let all : l .k ≡ a .p = omega arith in
-    subst (λ (n : ℕ). Joining (entry (a .table .now)) (flag (a .may .now)) (a .chosen .now) n (l .chosen) (l .blocked) (l .any)) all
+    subst (λ (n : ℕ). Joining (entry (a .table .now)) (flag (a .may .now)) (a .chosen .now) n (l .chosen) (l .blocked)) all
     (l .inv .1)
 
 pub join-spec : {M : Type 1} → statement M
@@ -59,7 +59,7 @@ join-spec =
     Inv-loop
     μ-loop
     loop-holds
-    add-t10
+    add-t9
     consider-requires
     add-k
     loop-less

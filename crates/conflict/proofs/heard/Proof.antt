@@ -6,7 +6,6 @@ use borrow.Author.Needs.{needs}
 use lib.ListN.{length, take, length-set}
 use Rattle.meaning.specs.Words.{tab}
 use Rattle.laws.proofs.Turns.{tab-next}
-use denote.Ref.{now}
 use Rattle.conflict.specs.Heard.{heardIn}
 use Rattle.conflict.proofs.Tables.{filled}
 use Rattle.conflict.proofs.heard.Statement.{statement}

@@ -1,7 +1,6 @@
 -- `gateway::yard_by_level` meets its contract: the planner's own, with its answer laid out for C.
 use mathlib.Core.Path.{ap, _∙_}
 use Rattle.gateway.specs.Flat.{flatPlanned}
-use native.Mathlib.Omega.{arith}
 use borrow.Author.Needs.{needs}
 use Rattle.gateway.proofs.yard_by_level.Statement.{statement}
 use Rattle.gateway.proofs.yard_by_level.Tie as tie

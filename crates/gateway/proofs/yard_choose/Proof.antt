@@ -1,7 +1,6 @@
 -- `gateway::yard_choose` meets its contract: each arm knows which choice it was.
 use mathlib.Core.Path.{sym, ap, _∙_}
 use Rattle.gateway.specs.Flat.{choiceNumber}
-use native.Mathlib.Omega.{arith}
 use borrow.Author.Needs.{needs}
 use Rattle.gateway.proofs.yard_choose.Statement.{statement}
 use Rattle.gateway.proofs.yard_choose.Tie as tie

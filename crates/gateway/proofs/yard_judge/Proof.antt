@@ -1,7 +1,6 @@
 -- `gateway::yard_judge` meets its contract: the judge's own, with its answer laid out for C.
 use mathlib.Core.Path.{ap, _∙_}
 use Rattle.gateway.specs.Flat.{flatVerdict}
-use native.Mathlib.Omega.{arith}
 use borrow.Author.Needs.{needs}
 use Rattle.gateway.proofs.yard_judge.Statement.{statement}
 use Rattle.gateway.proofs.yard_judge.Tie as tie
@@ -20,7 +19,7 @@ verdict-requires c κs = search needs
 
 -- src/lib.rt:76:1
 returns : tie.Need-returns
-returns c = c .verdict .ensures ∙ ap flatVerdict (c .before .judge .ensures)
+returns c = c .verdict .ensures ∙ ap flatVerdict (c .before .judge .ensures .0)
 
 pub yard-judge-spec : {M : Type 1} → statement M
 yard-judge-spec = tie.close (tie.spec judge-requires verdict-requires returns)

@@ -1,13 +1,14 @@
 -- `judge::judge` meets its contract: the sheet decides, then the count's two bytes, then the plan; an accepted sheet gives the slots what they count on.
-use mathlib.Core.Path.{_≡_}
+use mathlib.Core.Path.{_≡_, ap}
 use mathlib.Core.Bool.{true}
 use mathlib.Core.List.{List}
 use Prim.Native.Nat.{ℕ}
 use borrow.Author.Needs.{needs}
+use borrow.Author.Tests.{ne-eqb}
 use Rattle.meaning.specs.Answer.{isAccepted, sheetTest}
 use Rattle.meaning.specs.Judge.{planJudged}
 use Rattle.sheet.proofs.Standing.{outcome-read}
-use Rattle.judge.proofs.Judging.{sheet-accepted, ready-read, plan-read, sheet-decides, count-decides, plan-decides, plan-passes}
+use Rattle.judge.proofs.Judging.{sheet-accepted, ready-read, plan-read, sheet-decides, count-decides, plan-decides, plan-passes, exactly, exactly-refused}
 use Rattle.judge.proofs.judge.Statement.{statement}
 use Rattle.judge.proofs.judge.Tie as tie
 
@@ -21,7 +22,9 @@ returns : tie.Need-returns
 returns c =
     let tree = c .before .before .before .before .read in
     let start = c .before .before .before .before .before .before .before in
-    sheet-decides _ _ _ _ (outcome-read (start .args .sheet .now) (tree .result) (tree .ensures)) (c .before .if1 .taken) (c .refused .ensures)
+    exactly-refused _ _ _
+    (sheet-decides _ _ _ _ (outcome-read (start .args .sheet .now) (tree .result) (tree .ensures)) (c .before .if1 .taken) (c .refused .ensures))
+    _ (c .refused .ensures) (ne-eqb _ _ (c .before .if1 .taken))
 
 -- behind the sheet
 abbrev sheet : tie.Else1 → List ℕ
@@ -38,29 +41,31 @@ refused-requires-2 c κs = search needs
 
 returns-2 : tie.Need-returns-2
 returns-2 c =
-    count-decides _ _ (passed (c .before .before .before)) _ _ (c .before .refusal .ensures) (c .before .before .if2 .taken) (c .refused2 .ensures)
+    exactly-refused _ _ _
+    (count-decides _ _ (passed (c .before .before .before)) _ _ (c .before .refusal .ensures) (c .before .before .if2 .taken) (c .refused2 .ensures))
+    _ (c .refused2 .ensures) (ap isAccepted (c .before .refusal .ensures))
 
 -- behind the count
 conflicts-requires : tie.Need-conflicts-requires
 conflicts-requires c κs = search needs
 
-plan-test-requires : tie.Need-plan-test-requires
-plan-test-requires c κs =
+plan-judged-by-requires : tie.Need-plan-judged-by-requires
+plan-judged-by-requires c κs =
     let counted = c .before .before .before .before .before in
     let tree = counted .before .before .before .before .read in
     (counted .if2 .left, ready-read (sheet (counted .before)) (tree .result) (tree .ensures) (counted .before .if1 .left))
 
-abbrev counted : tie.After-plan-test → tie.Else2
+abbrev counted : tie.After-plan-judged-by → tie.Else2
 counted c = c .before .before .before .before .before .before
 
-abbrev plan : tie.After-plan-test → List ℕ
+abbrev plan : tie.After-plan-judged-by → List ℕ
 plan c = counted c .before .before .before .before .before .before .before .args .plan .now
 
-plan-answer : (c : tie.After-plan-test) → c .plan-test .result ≡ planJudged (sheet (counted c .before)) (plan c)
+plan-answer : (c : tie.After-plan-judged-by) → c .plan-judged-by .result ≡ planJudged (sheet (counted c .before)) (plan c)
 plan-answer c =
     let tree = counted c .before .before .before .before .read in
     plan-read (sheet (counted c .before)) (tree .result) (tree .ensures) (counted c .before .if1 .left) _ (plan c) _ (c .before .before .before .conflicts .ensures)
-    (c .plan-test .ensures)
+    (c .plan-judged-by .ensures)
 
 refused-requires-3 : tie.Need-refused-requires-3
 refused-requires-3 c κs = search needs
@@ -68,7 +73,9 @@ refused-requires-3 c κs = search needs
 returns-3 : tie.Need-returns-3
 returns-3 c =
     let tested = c .before .before .before in
-    plan-decides _ _ (passed (counted tested .before)) (counted tested .if2 .left) _ (plan-answer tested) _ (c .before .if3 .taken) (c .refused3 .ensures)
+    exactly-refused _ _ _
+    (plan-decides _ _ (passed (counted tested .before)) (counted tested .if2 .left) _ (plan-answer tested) _ (c .before .if3 .taken) (c .refused3 .ensures))
+    _ (c .refused3 .ensures) (ne-eqb _ _ (c .before .if3 .taken))
 
 slot-count-requires : tie.Need-slot-count-requires
 slot-count-requires c κs = search needs
@@ -76,7 +83,9 @@ slot-count-requires c κs = search needs
 returns-4 : tie.Need-returns-4
 returns-4 c =
     let tested = c .before .before .before in
-    plan-passes _ _ (passed (counted tested .before)) (counted tested .if2 .left) _ (plan-answer tested) _ (c .slot-count .ensures) (c .before .if3 .left)
+    exactly _ _ _
+    (plan-passes _ _ (passed (counted tested .before)) (counted tested .if2 .left) _ (plan-answer tested) _ (c .slot-count .ensures .0) (c .before .if3 .left))
+    (λ _. c .slot-count .ensures .1)
 
 pub judge-spec : {M : Type 1} → statement M
 judge-spec =
@@ -89,7 +98,7 @@ judge-spec =
     refused-requires-2
     returns-2
     conflicts-requires
-    plan-test-requires
+    plan-judged-by-requires
     refused-requires-3
     returns-3
     slot-count-requires

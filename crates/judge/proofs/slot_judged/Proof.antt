@@ -1,6 +1,6 @@
 -- `judge::slot_judged` meets its contract: the part lent from the middle of the plan is the slot, and a slot that passed has senders that may send.
 use Rattle.slot.proofs.Places.{part-read}
-use Rattle.judge.proofs.Turning.{turn-short, turn-refused, turn-passed}
+use Rattle.judge.proofs.SlotTurn.{turn-short, turn-refused, turn-passed}
 use borrow.Author.Needs.{needs}
 use Rattle.judge.proofs.slot_judged.Statement.{statement}
 use Rattle.judge.proofs.slot_judged.Tie as tie

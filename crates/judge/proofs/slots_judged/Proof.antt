@@ -1,32 +1,23 @@
 -- `judge::slots_judged` meets its contract: as far as slot k the definition has come to the same, the packets held together stay, and a refusal stays.
-use mathlib.Core.Path.{sym, subst}
-use Prim.Native.Nat.{ℕ, _-_}
-use lib.ListN.{getD}
-use Rattle.meaning.specs.declared.Outcome.{Outcome}
+use Prim.Native.Nat.{_-_}
+use Rattle.meaning.specs.Words.{byNode}
 use Rattle.meaning.specs.Conflict.{entry}
-use Rattle.judge.proofs.Going.{Going, going-starts, going-on, going-stops, going-ends}
+use Rattle.judge.proofs.SlotBySlot.{Going, going-starts, going-on, going-stops, going-ends}
 use borrow.Author.Needs.{needs}
 use Rattle.judge.proofs.slots_judged.Statement.{statement}
 use Rattle.judge.proofs.slots_judged.Tie as tie
 
 abbrev Inv-loop : tie.InvT-loop
 Inv-loop p parents table plan many held₀ outcome₀ at₀ k₀ held outcome at k =
-    Going p (λ u. getD parents u 0) (entry table) plan many held₀ k outcome at held
+    Going p (byNode parents) (entry table) plan many held₀ k outcome at held
 
 abbrev μ-loop : tie.MeasureT-loop
 μ-loop p parents table plan many held₀ outcome₀ at₀ k₀ held outcome at k = many - k
 
-passed-requires : tie.Need-passed-requires Inv-loop μ-loop
-passed-requires c κs = search needs
-
 loop-holds : tie.Need-loop-holds Inv-loop μ-loop
 loop-holds c =
-    let start = c .before .before in
-    let a = start .args in
-    let parent : ℕ → ℕ = λ u. getD (a .parents .now) u 0 in
-    subst (λ (o : Outcome). Going (a .p) parent (entry (a .table .now)) (a .plan .now) (a .many) (a .held .now) 0 o 2 (a .held .now))
-    (sym (c .passed .ensures))
-    (going-starts (a .p) parent (entry (a .table .now)) (a .plan .now) (a .many) (a .held .now) (start .pre .0) (start .pre .1))
+    let a = c .before .args in
+    going-starts (a .p) (byNode (a .parents .now)) (entry (a .table .now)) (a .plan .now) (a .many) (a .held .now) (c .before .pre .0) (c .before .pre .1)
 
 add-t12 : tie.Need-add-t12 Inv-loop μ-loop
 add-t12 c = search needs
@@ -59,7 +50,6 @@ slots-judged-spec =
     (tie.spec
     Inv-loop
     μ-loop
-    passed-requires
     loop-holds
     add-t12
     slot-judged-requires

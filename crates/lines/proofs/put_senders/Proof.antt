@@ -5,7 +5,7 @@ use lib.ListN.{length, take}
 use Rattle.meaning.specs.Lister.{sendersText}
 use Rattle.lines.specs.Line.{Put}
 use Rattle.lines.proofs.Putting.{put-long}
-use Rattle.lines.proofs.Senders.{senders-start, senders-room, senders-put, senders-all}
+use Rattle.lines.proofs.SendersText.{senders-start, senders-room, senders-put, senders-all}
 use native.Mathlib.Omega.{arith}
 use borrow.Author.Needs.{needs}
 use Rattle.lines.proofs.put_senders.Statement.{statement}

@@ -1,7 +1,7 @@
 -- `lines::slot_fits` meets its contract. The invariant: what is left of the room behind the first i senders. The measure is what is left of the senders.
 use Prim.Native.Nat.{_-_, _≤_}
 use lib.ListN.{length}
-use Rattle.lines.proofs.Senders.{Fits, fits-never, fits-start, fits-short, fits-next, fits-all}
+use Rattle.lines.proofs.SendersText.{Fits, fits-never, fits-start, fits-short, fits-next, fits-all}
 use native.Mathlib.Omega.{arith}
 use borrow.Author.Needs.{needs}
 use Rattle.lines.proofs.slot_fits.Statement.{statement}

@@ -3,7 +3,7 @@ use lib.ListN.{length}
 use Rattle.meaning.specs.Lister.{text, slotLine}
 use Rattle.lines.proofs.Putting.{put-more, put-long}
 use Rattle.lines.proofs.Lined.{line-short, line-put, slot-length}
-use Rattle.lines.proofs.Senders.{slot-short, slot-room}
+use Rattle.lines.proofs.SendersText.{slot-short, slot-room}
 use native.Mathlib.Omega.{arith}
 use borrow.Author.Needs.{needs}
 use Rattle.lines.proofs.slot_line.Statement.{statement}

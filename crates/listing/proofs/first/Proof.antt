@@ -13,8 +13,8 @@ all-packets-requires c κs = search needs
 heaviest-requires : tie.Need-heaviest-requires
 heaviest-requires c κs = search needs
 
-first-line-requires : tie.Need-first-line-requires
-first-line-requires c κs = search needs
+numbers-line-requires : tie.Need-numbers-line-requires
+numbers-line-requires c κs = search needs
 
 same-length : tie.Need-same-length
 same-length c = search needs
@@ -23,7 +23,7 @@ returns : tie.Need-returns
 returns c =
     let start = c .before .before .before .before .before .before .before .before .before .before .before .before in
     let tree = c .before .before .before .before .before .before .before .before .before .read in
-    let line = c .before .before .first-line in
+    let line = c .before .before .numbers-line in
     headed (start .args .sheet .now) (start .pre) (tree .result) (tree .ensures) (start .args .colours) (start .args .slots) _ _ (start .args .out .now) _ _
     (c .before .before .before .before .before .all-packets .ensures) (c .before .before .before .before .heaviest .ensures) (line .ensures .0) (line .ensures .1)
 
@@ -34,6 +34,6 @@ first-spec =
     read-requires
     all-packets-requires
     heaviest-requires
-    first-line-requires
+    numbers-line-requires
     same-length
     returns)

@@ -4,7 +4,7 @@ use mathlib.Core.List.{List}
 use Prim.Native.Nat.{ℕ}
 use lib.ListN.{length, replicate, length-replicate}
 use Rattle.meaning.specs.Plan.{anyPlan}
-use Rattle.listing.proofs.Answering.{list-short, list-refused, sheet-passed, head-within, lines-room, lines-end, list-planned}
+use Rattle.listing.proofs.Listed.{list-short, list-refused, sheet-passed, head-within, lines-room, lines-end, list-planned}
 use native.Mathlib.Omega.{arith}
 use borrow.Author.Needs.{needs}
 use Rattle.listing.proofs.list.Statement.{statement}

@@ -2,7 +2,7 @@
 -- make the whole with them. The measure is the number of slots that are left.
 use Prim.Native.Nat.{_-_}
 use Rattle.listing.specs.Listed.{Listing}
-use Rattle.listing.proofs.Walking.{listing-start, listing-long, listing-within, listing-all, listing-end, listing-next}
+use Rattle.listing.proofs.LineByLine.{listing-start, listing-long, listing-within, listing-all, listing-end, listing-next}
 use native.Mathlib.Omega.{arith}
 use borrow.Author.Needs.{needs}
 use Rattle.listing.proofs.slot_lines.Statement.{statement}

@@ -2,7 +2,7 @@
 use mathlib.Core.Path.{_∙_}
 use borrow.Author.Needs.{needs}
 use Rattle.meaning.specs.Rounds.{byProbe}
-use Rattle.plan.proofs.Answering.{refuses, two, ready, few, by-probe, finishes}
+use Rattle.plan.proofs.Answered.{refuses, two, ready, few, by-probe, finishes}
 use Rattle.plan.proofs.by_probe.Statement.{statement}
 use Rattle.plan.proofs.by_probe.Tie as tie
 
@@ -16,7 +16,7 @@ returns : tie.Need-returns
 returns c =
     let start = c .before .before .before .before .before .before .before in
     let tree = c .before .before .before .before .prepare in
-    let refused = refuses (start .args .sheet .now) (start .args .buf .now) (tree .result) (tree .ensures) (byProbe _) (c .before .if1 .taken) in
+    let refused = refuses (start .args .sheet .now) (start .args .buf .now) (tree .result) (tree .ensures) byProbe (c .before .if1 .taken) in
     (c .refused-plan .ensures ∙ refused .0, refused .1)
 
 conflicts-requires : tie.Need-conflicts-requires
@@ -55,7 +55,7 @@ returns-2 c =
     let plan =
     by-probe s buffer (tree .result) (tree .ensures) (passed .if1 .left) _ (table .ensures) (coloured .result) (used .result) (coloured .ensures) (used .ensures)
     in
-    finishes s buffer (tree .result) (tree .ensures) (passed .if1 .left) (byProbe s) _ _ _ _ (plan .0) (plan .1) (c .before .before .finish .ensures)
+    finishes s buffer (tree .result) (tree .ensures) (passed .if1 .left) byProbe _ _ _ _ (plan .0) (plan .1) (c .before .before .finish .ensures)
 
 pub by-probe-spec : {M : Type 1} → statement M
 by-probe-spec =

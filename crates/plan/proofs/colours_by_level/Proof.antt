@@ -1,9 +1,8 @@
 -- `plan::colours_by_level` meets its contract: before place v the colours are looked up.
-use mathlib.Core.Path.{_≡_, refl}
+use mathlib.Core.Path.{refl}
 use Prim.Native.Nat.{_-_}
 use lib.ListN.{getD}
 use Rattle.laws.proofs.Lists.{Becoming, becoming-start, becoming-next, becoming-whole}
-use native.Mathlib.Omega.{arith}
 use borrow.Author.Needs.{needs}
 use Rattle.plan.proofs.colours_by_level.Statement.{statement}
 use Rattle.plan.proofs.colours_by_level.Tie as tie

@@ -4,9 +4,9 @@ use mathlib.Core.List.{List}
 use Prim.Native.Nat.{ℕ, _-_}
 use lib.ListN.{length, getD, take, drop, length-drop, length-set}
 use Rattle.meaning.specs.Rounds.{rounds}
-use Rattle.plan.specs.Turn.{Ready}
-use Rattle.plan.specs.Going.{wayBy, from, Going}
-use Rattle.plan.proofs.Going.{part-from}
+use Rattle.plan.specs.ColourTurn.{Ready}
+use Rattle.plan.specs.TurnByTurn.{wayBy, from, Going}
+use Rattle.plan.proofs.TurnByTurn.{part-from}
 use Rattle.plan.proofs.Filling.{filled, slots-most}
 use native.Mathlib.Omega.{arith}
 use borrow.Author.Needs.{needs}

@@ -3,7 +3,6 @@ use mathlib.Core.Path.{sym}
 use borrow.Author.Tests.{ne-eqb}
 use Rattle.laws.proofs.Accepted.{then-stays}
 use Rattle.plan.proofs.Preparing.{room-short, room-enough}
-use native.Mathlib.Omega.{arith}
 use borrow.Author.Needs.{needs}
 use Rattle.plan.proofs.room_test.Statement.{statement}
 use Rattle.plan.proofs.room_test.Tie as tie

@@ -2,11 +2,11 @@
 use mathlib.Core.Path.{_≡_, refl, sym, ap, _∙_, subst}
 use Prim.Native.Nat.{ℕ, _-_, _≤_}
 use lib.ListN.{length, take, drop, length-drop}
+use Rattle.meaning.specs.Words.{byNode}
 use Rattle.meaning.specs.Rounds.{Progress}
-use Rattle.chosen.specs.TurnSlot.{byNode}
-use Rattle.plan.specs.Turn.{Ready}
-use Rattle.plan.specs.Going.{Going}
-use Rattle.plan.proofs.Going.{turns, turns-all, going-start, going-next, going-long, part-from}
+use Rattle.plan.specs.ColourTurn.{Ready}
+use Rattle.plan.specs.TurnByTurn.{Going}
+use Rattle.plan.proofs.TurnByTurn.{turns, turns-all, going-start, going-next, going-long, part-from}
 use native.Mathlib.Omega.{arith}
 use borrow.Author.Needs.{needs}
 use Rattle.plan.proofs.round.Statement.{statement}

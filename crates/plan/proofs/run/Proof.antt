@@ -1,17 +1,17 @@
 -- `plan::run` meets its contract: r rounds are made, and while a packet is outside another one follows.
 use mathlib.Core.Path.{_≡_, sym, ap, _∙_, subst}
-use mathlib.Core.Bool.{Bool, false}
+use mathlib.Core.Bool.{Bool, true, false, not}
 use mathlib.Core.List.{List}
-use Prim.Native.Nat.{ℕ, _+_, _-_, _≤_}
+use Prim.Native.Nat.{ℕ, _-_, _≤_}
 use borrow.Author.Tests.{not-true, not-false}
 use lib.ListN.{length, take, drop, length-drop}
+use Rattle.meaning.specs.Words.{byNode}
 use Rattle.meaning.specs.Rounds.{Progress, outside, rounds}
-use Rattle.chosen.specs.TurnSlot.{byNode}
 use Rattle.laws.specs.Few.{atMost63}
 use Rattle.laws.proofs.Few.{as-many}
-use Rattle.plan.specs.Turn.{Ready}
-use Rattle.plan.specs.Going.{wayBy, from, roundOf, Going}
-use Rattle.plan.proofs.Going.{rounds-start, rounds-stop, going-round, going-long, part-from, put-behind}
+use Rattle.plan.specs.ColourTurn.{Ready}
+use Rattle.plan.specs.TurnByTurn.{wayBy, from, Going}
+use Rattle.plan.proofs.TurnByTurn.{rounds-start, rounds-stop, going-round, going-long, part-from}
 use native.Mathlib.Omega.{arith}
 use borrow.Author.Needs.{needs}
 use Rattle.plan.proofs.run.Statement.{statement}
@@ -24,6 +24,9 @@ use Rattle.plan.proofs.round.Reads as round-reads
 -- at most 63 probes: `any_outside` looks at all of them
 within-yard : (p : ℕ) (held : List ℕ) (r : Bool) → p ≤ 63 → r ≡ outside (atMost63 p) held → r ≡ outside p held
 within-yard p held r small e = e ∙ ap (λ (n : ℕ). outside n held) (as-many p small)
+
+still-outside : (p : ℕ) (held : List ℕ) (r : Bool) → p ≤ 63 → r ≡ outside (atMost63 p) held → not r ≡ false → outside p held ≡ true
+still-outside p held r small e n = sym (within-yard p held r small e) ∙ not-false r n
 
 abbrev Inv-loop : tie.InvT-loop
 Inv-loop p parents table own m hops held₀ rest₀ at₀ slots₀ r₀ held rest at slots r =
@@ -78,25 +81,29 @@ round-requires c κs =
 
 add-at : tie.Need-add-at Inv-loop μ-loop
 add-at c =
-    let a = c .before .before .before .before .before .before .before .before .before .before .before .before .args in
-    let l = c .before .before .before .before .before .before .before .before .before .before .loop in
-    let out = c .before .before .before .before .before .before .before .any-outside in
+    let at = c .before .before .before in
+    let loop = at .before .before .before .before .before .before .before in
+    let start = loop .before .before in
+    let a = start .args in
+    let out = still-outside (a .p) (loop .loop .held) _ (start .pre .small) (at .before .before .before .before .any-outside .ensures) (at .before .before .before .if1 .left) in
     let next =
-    going-round (a .p) (a .parents .now) (a .table .now) (a .own .now) (a .m) (l .r) (a .held .now) (l .held) (a .rest .now) (l .rest) (l .at) (l .slots)
-    (l .inv .1) (sym (within-yard (a .p) (l .held) _ (c .before .before .before .before .before .before .before .before .before .before .before .before .pre .small) (out .ensures)) ∙ not-false (out .result) (c .before .before .before .before .before .before .if1 .left)) _ _ _ _ (c .before .before .before .round .ensures)
+    going-round (a .p) (a .parents .now) (a .table .now) (a .own .now) (a .m) (loop .loop .r) (a .held .now) _ _ _ _ _ (loop .loop .inv .1) out _ _ _ _
+    (at .round .ensures)
     in
-    omega (arith, next .within, c .before .before .before .before .before .before .before .before .before .before .before .before .good .1 .1 .1 .1 .1 .1 .1 .0 .0)
+    omega (arith, next .within, start .good .1 .1 .1 .1 .1 .1 .1 .0 .0)
 
 add-slots : tie.Need-add-slots Inv-loop μ-loop
 add-slots c =
-    let a = c .before .before .before .before .before .before .before .before .before .before .before .before .before .args in
-    let l = c .before .before .before .before .before .before .before .before .before .before .before .loop in
-    let out = c .before .before .before .before .before .before .before .before .any-outside in
+    let at = c .before .before .before .before in
+    let loop = at .before .before .before .before .before .before .before in
+    let start = loop .before .before in
+    let a = start .args in
+    let out = still-outside (a .p) (loop .loop .held) _ (start .pre .small) (at .before .before .before .before .any-outside .ensures) (at .before .before .before .if1 .left) in
     let next =
-    going-round (a .p) (a .parents .now) (a .table .now) (a .own .now) (a .m) (l .r) (a .held .now) (l .held) (a .rest .now) (l .rest) (l .at) (l .slots)
-    (l .inv .1) (sym (within-yard (a .p) (l .held) _ (c .before .before .before .before .before .before .before .before .before .before .before .before .before .pre .small) (out .ensures)) ∙ not-false (out .result) (c .before .before .before .before .before .before .before .if1 .left)) _ _ _ _ (c .before .before .before .before .round .ensures)
+    going-round (a .p) (a .parents .now) (a .table .now) (a .own .now) (a .m) (loop .loop .r) (a .held .now) _ _ _ _ _ (loop .loop .inv .1) out _ _ _ _
+    (at .round .ensures)
     in
-    omega (arith, next .within, next .fewer, c .before .before .before .before .before .before .before .before .before .before .before .before .before .good .1 .1 .1 .1 .1 .1 .1 .0 .0)
+    omega (arith, next .within, next .fewer, start .good .1 .1 .1 .1 .1 .1 .1 .0 .0)
 
 add-r : tie.Need-add-r Inv-loop μ-loop
 add-r c = search needs
@@ -106,14 +113,16 @@ loop-less c = search needs
 
 loop-again : tie.Need-loop-again Inv-loop μ-loop
 loop-again c =
-    let a = c .before .before .before .before .before .before .before .before .before .before .before .before .before .args in
-    let l = c .before .before .before .before .before .before .before .before .before .before .before .loop in
-    let out = c .before .before .before .before .before .before .before .before .any-outside in
-    let next =
-    going-round (a .p) (a .parents .now) (a .table .now) (a .own .now) (a .m) (l .r) (a .held .now) (l .held) (a .rest .now) (l .rest) (l .at) (l .slots)
-    (l .inv .1) (sym (within-yard (a .p) (l .held) _ (c .before .before .before .before .before .before .before .before .before .before .before .before .before .pre .small) (out .ensures)) ∙ not-false (out .result) (c .before .before .before .before .before .before .before .if1 .left)) _ _ _ _ (c .before .before .before .before .round .ensures)
-    in
-    (search needs, next)
+    let at = c .before .before .before .before in
+    let loop = at .before .before .before .before .before .before .before in
+    let a = loop .before .before .args in
+    let out =
+    still-outside (a .p) (loop .loop .held) _ (loop .before .before .pre .small) (at .before .before .before .before .any-outside .ensures) (at .before .before .before .if1 .left)
+    in (
+      search needs,
+      going-round (a .p) (a .parents .now) (a .table .now) (a .own .now) (a .m) (loop .loop .r) (a .held .now) _ _ _ _ _ (loop .loop .inv .1) out _ _ _ _
+          (at .round .ensures),
+    )
 
 same-length-2 : tie.Need-same-length-2 Inv-loop μ-loop
 same-length-2 c = going-long (c .before .loop .inv .1)

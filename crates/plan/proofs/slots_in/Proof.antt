@@ -2,8 +2,6 @@
 use mathlib.Core.Path.{sym, ap}
 use mathlib.Core.Bool.{Bool, cond}
 use borrow.Author.Tests.{eq-eqb, ne-eqb}
-use native.Mathlib.Omega.{arith}
-use borrow.Author.Needs.{needs}
 use Rattle.plan.proofs.slots_in.Statement.{statement}
 use Rattle.plan.proofs.slots_in.Tie as tie
 use Rattle.plan.proofs.slots_in.Reads as reads

@@ -1,9 +1,9 @@
 -- `plan::turn` meets its contract: where `write_slot` took no byte nobody sends, and otherwise its senders stand behind the count and can send.
 use mathlib.Core.Path.{_∙_}
 use borrow.Author.Needs.{needs}
-use Rattle.chosen.specs.TurnSlot.{byNode}
-use Rattle.slot.proofs.Moving.{moved-within}
-use Rattle.plan.proofs.Turning.{slot-ends, turned-none, may-move, turned-slot}
+use Rattle.meaning.specs.Words.{byNode}
+use Rattle.slot.proofs.Within.{moved-within}
+use Rattle.plan.proofs.ColourTurn.{slot-ends, turned-none, may-move, turned-slot}
 use Rattle.plan.proofs.turn.Statement.{statement}
 use Rattle.plan.proofs.turn.Tie as tie
 use Rattle.plan.proofs.turn.Reads as reads

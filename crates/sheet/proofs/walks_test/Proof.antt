@@ -3,7 +3,7 @@ use mathlib.Core.Path.{_∙_}
 use Prim.Native.Nat.{_-_}
 use lib.ListN.{getD}
 use borrow.Author.Needs.{needs}
-use Rattle.sheet.proofs.Walking.{Walked, walks-start, walks-next, walks-stray, walks-end}
+use Rattle.sheet.proofs.AllWalks.{Walked, walks-start, walks-next, walks-stray, walks-end}
 use Rattle.sheet.proofs.walks_test.Statement.{statement}
 use Rattle.sheet.proofs.walks_test.Tie as tie
 

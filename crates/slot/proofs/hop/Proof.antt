@@ -1,7 +1,7 @@
 -- `slot::hop` meets its contract: where a test fails nothing moves, and once all hold the code is the meaning's hop.
 use Prim.Native.Nat.{_-_}
 use lib.ListN.{getD}
-use Rattle.slot.proofs.Moving.{set-less, no-node, no-parent, no-packet, no-room, hops}
+use Rattle.slot.proofs.Within.{set-less, no-node, no-parent, no-packet, no-room, hops}
 use native.Mathlib.Omega.{arith}
 use borrow.Author.Needs.{needs}
 use Rattle.slot.proofs.hop.Statement.{statement}

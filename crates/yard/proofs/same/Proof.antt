@@ -1,8 +1,7 @@
 -- `yard::same` reads no byte outside the two words: they are equally long, and the loop stays inside the first. The measure is what is left.
 use mathlib.Core.Path.{_≡_}
-use Prim.Native.Nat.{_-_, _≤_}
+use Prim.Native.Nat.{_-_}
 use lib.ListN.{length}
-use native.Mathlib.Omega.{arith}
 use borrow.Author.Needs.{needs}
 use Rattle.yard.proofs.same.Statement.{statement}
 use Rattle.yard.proofs.same.Tie as tie

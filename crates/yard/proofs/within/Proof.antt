@@ -2,7 +2,6 @@
 use mathlib.Core.Path.{sym}
 use lib.Seq.{length-take-le}
 use native.Mathlib.Omega.{arith}
-use borrow.Author.Needs.{needs}
 use Rattle.yard.proofs.within.Statement.{statement}
 use Rattle.yard.proofs.within.Tie as tie
 

@@ -1,0 +1,108 @@
+-- The turn of one slot: it passes and its packets move, or it is refused and nothing moves; and the ways that the code goes through it.
+use mathlib.Core.Path.{_≡_, sym, ap, ap₂, _∙_}
+use mathlib.Core.Bool.{Bool, true}
+use mathlib.Core.List.{List}
+use mathlib.Core.Logic.{_⊎_, ⊎-elim}
+use Prim.Native.Nat.{ℕ, _≤_, _<_}
+use native.Mathlib.Omega.{arith}
+use borrow.Author.Tests.{lt-ltb, le-ltb, eq-eqb, ne-eqb}
+use lib.Dec.{ltb}
+use lib.ListN.{length}
+use Rattle.meaning.specs.declared.Outcome.{Outcome}
+use Rattle.meaning.specs.Words.{places}
+use Rattle.meaning.specs.Rounds.{moved}
+use Rattle.meaning.specs.Answer.{isAccepted, given, _then_}
+use Rattle.meaning.specs.Plan.{nextAt, sendersAt}
+use Rattle.meaning.specs.Judge.{slotTest, Judging, slotJudged}
+use Rattle.laws.proofs.Moving.{weigh, Sender, length-moved, kept}
+use Rattle.laws.proofs.Accepted.{then-goes}
+use Rattle.slot.specs.declared.SlotAt.{SlotAt}
+use Rattle.slot.specs.Place.{slotAt}
+use Rattle.laws.specs.Few.{atMost63}
+use Rattle.slot.specs.Move.{movedWithin}
+use Rattle.slot.proofs.Places.{lent, next-read, slot-read}
+use Rattle.laws.proofs.Few.{as-many}
+use Rattle.laws.proofs.Passed.{passed, Passes, Refused, turn}
+use Rattle.laws.proofs.Running.{each-at}
+use Rattle.slot.proofs.Within.{moved-within}
+use Rattle.judge.specs.SlotTurn.{judgingFrom, Ready}
+
+module _ (p : ℕ) (parent : ℕ → ℕ) (relation : ℕ → ℕ → Bool) (plan : List ℕ) (place : ℕ) (now : Judging) where
+  abbrev slot : List ℕ
+  slot = sendersAt plan (now .at)
+
+  abbrev after : Judging
+  after = slotJudged p parent relation plan place now
+
+  abbrev Pass : Type 0
+  Pass = Passes p parent relation plan place now
+
+  abbrev Refuse : Type 0
+  Refuse = Refused p parent relation plan place now
+
+  -- the next slot begins within the plan
+  pub turn-inside : now .at ≤ length plan → after .at ≤ length plan
+  turn-inside h = ⊎-elim (λ (w : Pass). omega (arith, w .next, w .within)) (λ (w : Refuse). omega (arith, w .stays)) (turn p parent relation plan place now)
+
+  pub turn-long : length (now .held) ≡ places → length (after .held) ≡ places
+  turn-long h =
+      ⊎-elim (λ (w : Pass). ap length (w .moves) ∙ length-moved parent slot (now .held) ∙ h) (λ (w : Refuse). ap length (w .rests) ∙ h)
+      (turn p parent relation plan place now)
+
+  -- conservation: the packets of all nodes together stay
+  pub turn-kept : Ready p parent (now .held) → weigh (λ _. 1) (after .held) ≡ weigh (λ _. 1) (now .held)
+  turn-kept ready =
+      ⊎-elim
+      (λ (w : Pass).
+      let may = passed p parent relation (now .held) slot place (ready .few) (ready .parents) (w .tested) in
+      ap (weigh (λ _. 1)) (w .moves) ∙ kept parent 1 slot (now .held) (ready .long) (may .rising) (may .sending))
+      (λ (w : Refuse). ap (weigh (λ _. 1)) (w .rests))
+      (turn p parent relation plan place now)
+
+-- the ways of the code through a turn, with where it has read the slot and what it answers
+module _ (plan : List ℕ) (at : ℕ) (here : SlotAt) (is : here ≡ slotAt plan at) (inside : at ≤ length plan) (p : ℕ) (parent : ℕ → ℕ)
+    (relation : ℕ → ℕ → Bool) (place : ℕ) (held : List ℕ) (o : Outcome) where
+  abbrev whole : Judging
+  whole = slotJudged p parent relation plan place (judgingFrom at held)
+
+  abbrev senders : List ℕ
+  senders = sendersAt plan at
+
+  -- 11: the slot runs past the end
+  pub turn-short : o ≡ record { number = 11; place = place } → length plan < here .next → record { outcome = o; at = at; held = held } ≡ whole
+  unfolding slotJudged _then_
+  turn-short told short =
+      let past : ltb (length plan) (nextAt plan at) ≡ true = lt-ltb (length plan) (nextAt plan at) (omega (arith, next-read plan at here is inside)) in
+      simp (past, told)
+
+  module _ (within : here .next ≤ length plan) (ready : Ready p parent held)
+      (tested : o ≡ slotTest (atMost63 p) relation held place (lent plan here)) where
+    test-read : o ≡ slotTest p relation held place senders
+    test-read =
+        tested ∙ ap₂ (λ (n : ℕ) (slot : List ℕ). slotTest n relation held place slot) (as-many p (ready .few)) (slot-read plan at here is inside)
+
+    behind : (given 11 place (ltb (length plan) (nextAt plan at)) then slotTest p relation held place senders) ≡ o
+    behind =
+        then-goes _ (slotTest p relation held place senders)
+        (ap (λ (b : Bool). isAccepted (given 11 place b)) (le-ltb (length plan) (nextAt plan at) (omega (arith, next-read plan at here is inside))))
+        ∙ sym test-read
+
+    -- 12 to 15
+    pub turn-refused : (o .number ≡ 0 → ⊥) → record { outcome = o; at = at; held = held } ≡ whole
+    unfolding slotJudged
+    turn-refused some = simp (behind, ne-eqb (o .number) 0 some)
+
+    -- the slot passes, so its senders may send
+    pub turn-passed : o .number ≡ 0 → (held′ : List ℕ) → held′ ≡ movedWithin parent (lent plan here) held
+        → record { outcome = o; at = here .next; held = held′ } ≡ whole
+    unfolding slotJudged
+    turn-passed none held′ moves =
+        let may =
+        passed p parent relation held senders place (ready .few) (ready .parents)
+        (ap (λ (x : Outcome). isAccepted x) (sym test-read) ∙ eq-eqb (o .number) 0 none)
+        in
+        let moved-slot : held′ ≡ moved parent senders held =
+        moves ∙ ap (λ (slot : List ℕ). movedWithin parent slot held) (slot-read plan at here is inside)
+        ∙ moved-within parent senders held (ready .long) (ready .packets) (may .rising) (each-at (Sender parent held) senders (may .sending))
+        in
+        simp (next-read plan at here is inside, behind, eq-eqb (o .number) 0 none, moved-slot)

@@ -1,0 +1,44 @@
+-- What an accepted sheet's yard gives to the limits: walks that end at the gateway, and conflicts that can be coloured.
+use mathlib.Core.Path.{_≡_, _∙_}
+use mathlib.Core.Bool.{true}
+use mathlib.Core.List.{List}
+use Prim.Native.Nat.{ℕ, _+_, _≤_}
+use native.Mathlib.Omega.{arith}
+use Rattle.meaning.specs.Yard.{isProbe}
+use Rattle.meaning.specs.Sheet.{probeCount, parentOf, packetsOf, pairRecords, pairCount, interfere}
+use Rattle.meaning.specs.Conflict.{entry, conflictTable}
+use Rattle.meaning.specs.Answer.{isAccepted, sheetTest}
+use Rattle.laws.proofs.Walk.{probe-below}
+use Rattle.laws.proofs.Conflicting.{siblings-conflict, interfere-sym}
+use Rattle.laws.proofs.Accepted.{AcceptedYard, accepted-yard, parent-outside}
+use Rattle.laws.proofs.Exact.{table-clash}
+use Rattle.limits.proofs.Branch.{Rooted}
+
+module _ (s : List ℕ) (ok : isAccepted (sheetTest s) ≡ true) where
+  yard : AcceptedYard s
+  yard = accepted-yard s ok
+
+  pub few : probeCount s ≤ 63
+  few = yard .few
+
+  pub inside : (v : ℕ) → isProbe (probeCount s) v ≡ true → (1 ≤ parentOf s v) × (parentOf s v ≤ probeCount s + 1)
+  inside v h = (yard .probe v h .parent-least, yard .probe v h .parent-most)
+
+  pub some-packets : (v : ℕ) → isProbe (probeCount s) v ≡ true → 1 ≤ packetsOf s v
+  some-packets v h = yard .probe v h .packets-least
+
+  pub rooted : Rooted (probeCount s) (parentOf s)
+  rooted =
+      record {
+        inside = inside;
+        arrives = λ v h. yard .probe v h .arrives;
+        gateway = parent-outside s 1 (probe-below (probeCount s) 1 (omega arith));
+        nowhere = parent-outside s 0 (probe-below (probeCount s) 0 (omega arith));
+      }
+
+  -- two probes with one parent conflict
+  pub siblings : (x y : ℕ) → isProbe (probeCount s) x ≡ true → isProbe (probeCount s) y ≡ true → (x ≡ y → ⊥) → parentOf s x ≡ parentOf s y
+      → entry (conflictTable s) x y ≡ true
+  siblings x y hx hy other one =
+      table-clash s ok x y
+      ∙ siblings-conflict (probeCount s) (parentOf s) (interfere (pairRecords s) (pairCount s)) (interfere-sym (pairRecords s) (pairCount s)) x y hx hy other one

@@ -1,0 +1,21 @@
+-- Demand 3, on the telephone: how many slots at least, in our plan by probe, and at most.
+use mathlib.Core.Bool.{cond}
+use Prim.Native.Nat.{ℕ, _*_, min}
+use Rattle.meaning.specs.declared.Told.{Told}
+use Rattle.meaning.specs.Words.{Bytes}
+use Rattle.meaning.specs.Sheet.{hops, allPackets, heaviest}
+use Rattle.meaning.specs.Plan.{anyPlan}
+use Rattle.meaning.specs.Rounds.{byProbe}
+use Rattle.meaning.specs.Answer.{isAccepted, planMade}
+
+-- Demand 3: at most as many slots as colours times the packets of the heaviest branch, and at most as many as hops; the smaller counts
+abbrev pub atMost : (s : Bytes) → (colours : ℕ) → ℕ
+atMost s colours = min (colours * heaviest s) (hops s)
+
+-- Demand 3: the telephone's answer: at least all packets, ours by probe in a buffer with room for any plan, and at most; on refusal all three are 0
+unfoldable pub asked : Bytes → Told
+asked s =
+    let planned = planMade byProbe s anyPlan .answer in
+    cond (isAccepted (planned .outcome))
+    (record { outcome = planned .outcome; least = allPackets s; ours = planned .slots; most = atMost s (planned .colours) })
+    (record { outcome = planned .outcome; least = 0; ours = 0; most = 0 })

@@ -1,0 +1,6 @@
+-- Read Promises; the others carry it.
+pub mod Numbers
+pub mod Planning
+pub mod Choosing
+pub mod Bytes
+pub mod Promises

@@ -1,0 +1,142 @@
+-- The page of promises: what planners, judge, chooser, lister and telephone answer for every input, by their contracts, in the words of `specs/Answers.antt`.
+use mathlib.Core.Path.{_≡_}
+use mathlib.Core.Bool.{true, cond}
+use mathlib.Core.List.{List, []}
+use Prim.Native.Nat.{ℕ, _+_, _*_, _≤_, _<_}
+use lib.Dec.{eqb}
+use lib.ListN.{length, getD, take}
+use Rattle.meaning.specs.declared.Choice.the-variants.{Neither, First, Second}
+use Rattle.meaning.specs.Words.{Bytes, some, someProbe, mostProbes}
+use Rattle.meaning.specs.Yard.{branchPackets}
+use Rattle.meaning.specs.Sheet.{decidingSheet, probeCount, parentOf, packetsOf, hops, allPackets, heaviest}
+use Rattle.meaning.specs.Plan.{decidingPlan, planBytes, front}
+use Rattle.meaning.specs.Colour.{coloursUsed, probeColours, depth, levelColours}
+use Rattle.meaning.specs.Answer.{accepted, sheetTest, refusedPlan}
+use Rattle.meaning.specs.Judge.{judge, choice, handedBack}
+use Rattle.meaning.specs.Lister.{list, listing}
+use Rattle.meaning.specs.Telephone.{atMost, asked}
+use Rattle.meaning.specs.Legal.{Good}
+use Rattle.laws.proofs.Exact.{good-passed}
+use Rattle.laws.proofs.Recorded.{no-empty-slot}
+use Rattle.laws.proofs.Used.{probe-colours-used, level-colours-used}
+use Rattle.judge.proofs.Conserved.{packetsAfter, conserved}
+use Rattle.limits.proofs.Deciding.{verdict-decided, text-decided}
+use Rattle.limits.proofs.Fewest.{slots-least}
+use Rattle.limits.proofs.Tops.{heaviest-at-top}
+use Rattle.telephone.proofs.Limits.{answered, not-answered, least-ours, ours-most, least-any}
+use Rattle.promises.specs.Answers.{Planner, probe, level, way, slotsBy, answer, after, planOf, Answers, counted, Accepted, Refused, Room, Short, Passes, Byte, numbers}
+use Rattle.promises.proofs.Planning.{plans, refuses-sheet, refuses-short, never-ten, own-passes, slots-few, by-probe-limit, by-level-limit, decides}
+use Rattle.promises.proofs.Choosing.{first-chosen, second-chosen, neither-chosen}
+use Rattle.promises.proofs.Bytes.{bytes-good, plan-bytes-decide, choice-decided}
+
+-- Demand 1: every accepted sheet gets its plan, by either planner, wherever there is room: number 0, the counts of the paper's plan, and its bytes in front
+pub planned : (planner : Planner) (s buffer : Bytes) → Accepted s → Room s buffer
+    → Answers planner s buffer (counted planner s) (front buffer (planBytes (slotsBy planner s)))
+planned = plans
+
+-- Demand 1: every other sheet gets the numbered refusal of its own test, and a buffer that is too short gets 9; nothing is written
+pub refused : (planner : Planner) (s buffer : Bytes) → Refused s → Answers planner s buffer (refusedPlan (sheetTest s)) buffer
+refused = refuses-sheet
+
+pub no-room : (planner : Planner) (s buffer : Bytes) → Accepted s → Short s buffer
+    → Answers planner s buffer (refusedPlan (record { number = 9; place = 0 })) buffer
+no-room = refuses-short
+
+-- "Numbers returned": 10 is never given
+pub never-10 : (planner : Planner) (s buffer : Bytes) → answer planner s buffer .outcome .number ≡ 10 → ⊥
+never-10 = never-ten
+
+-- "The plan in bytes": ours have no slot without a sender, and no more slots than hops, which are at most 30,240
+pub no-slot-empty : (planner : Planner) (s : Bytes) (k : ℕ) → k < length (slotsBy planner s) → 0 < length (getD (slotsBy planner s) k [])
+no-slot-empty planner s = no-empty-slot s (way planner s)
+
+pub slots-hops : (planner : Planner) (s buffer : Bytes) → Accepted s → Room s buffer → (answer planner s buffer .slots ≤ hops s) × (hops s ≤ 30240)
+slots-hops = slots-few
+
+-- "Colours": M is the number of colours: each from 1 to M is some probe's, by level some level's
+pub every-probe-colour : (s : Bytes) → Accepted s → (c : ℕ) → 1 ≤ c → c ≤ coloursUsed (probeColours s)
+    → someProbe (probeCount s) (λ v. eqb (getD (probeColours s) v 0) c) ≡ true
+every-probe-colour = probe-colours-used
+
+pub every-level-colour : (s : Bytes) → Accepted s → (c : ℕ) → 1 ≤ c → c ≤ coloursUsed (levelColours s)
+    → some (depth s) (λ k. eqb (getD (levelColours s) (k + 1) 0) c) ≡ true
+every-level-colour = level-colours-used
+
+-- Demand 2: the judge passes a plan exactly when it is good, told without a judge in `Legal.antt` (the last clause of its contract says so of its own bytes)
+pub passes-good : (s : Bytes) (plan : List Byte) → Passes s (numbers plan) → Good s (numbers plan)
+passes-good = bytes-good
+
+pub good-passes : (s plan : Bytes) (good : Good s plan) → judge s plan ≡ record { outcome = accepted; slots = length (good .slots) }
+good-passes = good-passed
+
+-- Demand 2: and it passes all our own plans, with the planner's own number of slots
+pub ours-pass : (planner : Planner) (s buffer : Bytes) → Accepted s → Room s buffer
+    → judge s (planOf planner s buffer) ≡ record { outcome = accepted; slots = answer planner s buffer .slots }
+ours-pass = own-passes
+
+-- "Numbers returned": after each slot the packets in probes and gateway together equal the sheet's total, whatever the plan
+pub packets-stay : (s plan : Bytes) (k : ℕ) → Accepted s → packetsAfter s plan k ≡ allPackets s
+packets-stay = conserved
+
+-- "Numbers returned": the chooser hands back a plan whole, it passes, and no other of the two that passes has fewer slots (the first when equal)
+pub first-back : (s a b : Bytes) → choice s a b ≡ First
+    → (handedBack (choice s a b) a b ≡ a) × Passes s a × (Passes s b → judge s a .slots ≤ judge s b .slots)
+first-back = first-chosen
+
+pub second-back : (s a b : Bytes) → choice s a b ≡ Second
+    → (handedBack (choice s a b) a b ≡ b) × Passes s b × (Passes s a → judge s b .slots < judge s a .slots)
+second-back = second-chosen
+
+-- "Numbers returned": or nothing, where neither passes
+pub none-back : (s a b : Bytes) → choice s a b ≡ Neither → (handedBack (choice s a b) a b ≡ []) × (Passes s a → ⊥) × (Passes s b → ⊥)
+none-back = neither-chosen
+
+-- Demand 3: slots by probe, at most its colours times the packets of the heaviest branch
+pub by-probe-slots : (s buffer : Bytes) → Accepted s → Room s buffer → answer probe s buffer .slots ≤ answer probe s buffer .colours * heaviest s
+by-probe-slots = by-probe-limit
+
+-- Demand 3: slots by level, at most its colours times all packets
+pub by-level-slots : (s buffer : Bytes) → Accepted s → Room s buffer → answer level s buffer .slots ≤ answer level s buffer .colours * allPackets s
+by-level-slots = by-level-limit
+
+-- Demand 3: no plan that the judge passes, from anyone, has fewer slots than packets
+pub no-fewer-slots : (s plan : Bytes) → Passes s plan → allPackets s ≤ judge s plan .slots
+no-fewer-slots = slots-least
+
+-- Demand 3, on the telephone: every accepted sheet is answered for: all packets, our slots by probe, and the smaller of the two limits on them
+pub told : (s : Bytes) → Accepted s
+    → asked s ≡ record { outcome = accepted; least = allPackets s; ours = length (slotsBy probe s); most = atMost s (coloursUsed (probeColours s)) }
+told = answered
+
+pub not-told : (s : Bytes) → Refused s → asked s ≡ record { outcome = sheetTest s; least = 0; ours = 0; most = 0 }
+not-told = not-answered
+
+-- Demand 3, on the telephone: at least ≤ ours ≤ at most, and no plan that the judge passes, from anyone, has fewer slots than at least
+pub told-limits : (s : Bytes) → (asked s .least ≤ asked s .ours) × (asked s .ours ≤ asked s .most)
+told-limits s = (least-ours s, ours-most s)
+
+pub told-least : (s plan : Bytes) → Passes s plan → asked s .least ≤ judge s plan .slots
+told-least = least-any
+
+-- "The lister": the heaviest branch is one next to the gateway
+pub heaviest-branch : (s : Bytes) → Accepted s
+    → heaviest s ≡ mostProbes (probeCount s) (λ v. cond (eqb (parentOf s v) 1) (branchPackets (probeCount s) (parentOf s) (packetsOf s) v) 0)
+heaviest-branch = heaviest-at-top
+
+-- "The lister": the first 4,162 bytes of a sheet decide every answer: a planner's and the buffer after it, the verdict, the choice, the lister's text
+pub bytes-decide-plan-made : (planner : Planner) (s buffer : Bytes)
+    → Answers planner (take decidingSheet s) buffer (answer planner s buffer) (after planner s buffer)
+bytes-decide-plan-made = decides
+
+pub bytes-decide-verdict : (s plan : Bytes) → judge (take decidingSheet s) plan ≡ judge s plan
+bytes-decide-verdict = verdict-decided
+
+pub bytes-decide-choice : (s a b : Bytes) → choice (take decidingSheet s) a b ≡ choice s a b
+bytes-decide-choice = choice-decided
+
+pub bytes-decide-text : (s : Bytes) → listing s ≡ list s
+bytes-decide-text = text-decided
+
+-- "Numbers returned": the first 96,032 bytes of a plan decide its verdict
+pub bytes-decide-plan : (s : Bytes) (plan : List Byte) → judge s (take decidingPlan (numbers plan)) ≡ judge s (numbers plan)
+bytes-decide-plan = plan-bytes-decide

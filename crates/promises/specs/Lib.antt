@@ -1,0 +1,2 @@
+-- The words of the page of promises.
+pub mod Answers

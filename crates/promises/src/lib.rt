@@ -1,0 +1,1 @@
+// The page of promises stands in proofs/Promises.antt, in the words of specs/Answers.antt.

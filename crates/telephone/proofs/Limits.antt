@@ -1,0 +1,100 @@
+-- The limits hold of the telephone's answer: neither room nor count refuses an accepted sheet, so that its answer is whole, and what limits all plans limits ours.
+use mathlib.Core.Path.{_≡_, refl, sym, ap, ap₂, _∙_, subst}
+use mathlib.Core.Bool.{Bool, true, false, cond}
+use mathlib.Core.List.{List}
+use mathlib.Core.Logic.{⊎-elim}
+use Prim.Native.Nat.{ℕ, _≤_}
+use native.Mathlib.Omega.{arith}
+use borrow.Author.Tests.{le-ltb}
+use lib.ListN.{length}
+use Rattle.meaning.specs.declared.Outcome.{Outcome}
+use Rattle.meaning.specs.declared.Told.{Told}
+use Rattle.meaning.specs.declared.Verdict.{Verdict}
+use Rattle.meaning.specs.Sheet.{hops, allPackets}
+use Rattle.meaning.specs.Colour.{coloursUsed, probeColours}
+use Rattle.meaning.specs.Plan.{planBytes, roomFor, anyPlan}
+use Rattle.meaning.specs.Rounds.{byProbe, slotsOf}
+use Rattle.meaning.specs.Answer.{accepted, isAccepted, given, _then_, sheetTest, planTest, refusedPlan, PlanMade}
+use Rattle.meaning.specs.Judge.{judge}
+use Rattle.meaning.specs.Telephone.{atMost, asked}
+use Rattle.laws.proofs.Slots.{true-or-false}
+use Rattle.laws.proofs.Accepted.{then-stays, then-goes}
+use Rattle.laws.proofs.PlanMade.{makes}
+use Rattle.laws.proofs.Own.{OwnPlan, by-probe-plan}
+use Rattle.limits.proofs.Hops.{hops-limit}
+use Rattle.limits.proofs.Fewest.{slots-least}
+use Rattle.limits.proofs.MostByProbe.{by-probe-most}
+use Rattle.telephone.proofs.Answered.{whole, nothing, tells, asked-tells}
+
+module _ (s : List ℕ) where
+  abbrev slots : List (List ℕ)
+  slots = slotsOf s (byProbe s)
+
+  -- an accepted sheet
+  module _ (ok : isAccepted (sheetTest s) ≡ true) where
+    own : OwnPlan s (byProbe s)
+    own = by-probe-plan s ok
+
+    tests-pass : planTest s anyPlan slots ≡ accepted
+    unfolding planTest _then_
+    tests-pass =
+        then-goes (sheetTest s) _ ok
+        ∙ ap₂ (λ (short many : Bool). given 9 0 short then given 10 0 many)
+        (le-ltb anyPlan (roomFor (hops s)) (omega (arith, hops-limit s ok)))
+        (le-ltb 65535 (length slots) (omega (arith, own .few, hops-limit s ok)))
+
+    -- Demand 3: it is answered, and never by 9 or 10: at least all packets, our plan's slots, and at most the smaller of the two
+    pub answered : asked s
+        ≡ record { outcome = accepted; least = allPackets s; ours = length (slotsOf s (byProbe s)); most = atMost s (coloursUsed (probeColours s)) }
+    unfolding byProbe
+    answered =
+        asked-tells s
+        ∙ ap (λ (m : PlanMade). tells s (m .answer)) (makes byProbe s anyPlan true (ap isAccepted tests-pass))
+        ∙ ap (λ (o : Outcome). tells s (record { outcome = o; colours = byProbe s .colours; slots = length slots; bytes = length (planBytes slots) })) tests-pass
+
+    -- and the judge passes that plan with these slots
+    pub ours-passed : judge s (planBytes (slotsOf s (byProbe s))) ≡ record { outcome = asked s .outcome; slots = asked s .ours }
+    ours-passed = own .passed ∙ ap (λ (t : Told). record { outcome = t .outcome; slots = t .ours }) (sym answered)
+
+    packets-slots : allPackets s ≤ length slots
+    packets-slots =
+        let passes = ap (λ (v : Verdict). isAccepted (v .outcome)) (own .passed) in
+        omega (arith, slots-least s (planBytes slots) passes, ap (λ (v : Verdict). v .slots) (own .passed))
+
+  -- a refused sheet
+  module _ (refused : isAccepted (sheetTest s) ≡ false) where
+    tests-refuse : planTest s anyPlan slots ≡ sheetTest s
+    unfolding planTest
+    tests-refuse = then-stays (sheetTest s) _ refused
+
+    -- Demand 3: on refusal the sheet's own number and place are told, and three zeros
+    pub not-answered : asked s ≡ record { outcome = sheetTest s; least = 0; ours = 0; most = 0 }
+    not-answered =
+        asked-tells s
+        ∙ ap (λ (m : PlanMade). tells s (m .answer)) (makes byProbe s anyPlan false (ap isAccepted tests-refuse ∙ refused))
+        ∙ ap (λ (o : Outcome). tells s (refusedPlan o)) tests-refuse
+        ∙ ap (λ (b : Bool). cond b (whole s (refusedPlan (sheetTest s))) (nothing (refusedPlan (sheetTest s)))) refused
+
+  -- what holds of both answers holds of every sheet
+  by-answer : (P : Told → Type 0)
+      → (isAccepted (sheetTest s) ≡ true → P (record { outcome = accepted; least = allPackets s; ours = length slots; most = atMost s (coloursUsed (probeColours s)) }))
+      → (isAccepted (sheetTest s) ≡ false → P (record { outcome = sheetTest s; least = 0; ours = 0; most = 0 })) → P (asked s)
+  by-answer P whole-told nothing-told =
+      ⊎-elim (λ ok. subst P (sym (answered ok)) (whole-told ok)) (λ refused. subst P (sym (not-answered refused)) (nothing-told refused))
+      (true-or-false (isAccepted (sheetTest s)))
+
+  -- Demand 3: a sheet is answered exactly when it is accepted
+  pub answered-exactly : isAccepted (asked s .outcome) ≡ isAccepted (sheetTest s)
+  answered-exactly = by-answer (λ t. isAccepted (t .outcome) ≡ isAccepted (sheetTest s)) sym (λ _. refl)
+
+  -- Demand 3: at least is no more than ours ..
+  pub least-ours : asked s .least ≤ asked s .ours
+  least-ours = by-answer (λ t. t .least ≤ t .ours) packets-slots (λ _. omega arith)
+
+  -- .. and ours no more than at most, by both limits
+  pub ours-most : asked s .ours ≤ asked s .most
+  ours-most = by-answer (λ t. t .ours ≤ t .most) (λ ok. omega (arith, by-probe-most s ok, own ok .few)) (λ _. omega arith)
+
+  -- Demand 3: no plan that the judge passes, from anyone, has fewer slots than at least
+  pub least-any : (plan : List ℕ) → isAccepted (judge s plan .outcome) ≡ true → asked s .least ≤ judge s plan .slots
+  least-any plan passed = by-answer (λ t. t .least ≤ judge s plan .slots) (λ _. slots-least s plan passed) (λ _. omega arith)

@@ -1,0 +1,73 @@
+-- `telephone::ask` meets its contract: a refusal is the planner's, and what is counted in the tree is what the sheet says.
+use mathlib.Core.Path.{_≡_}
+use mathlib.Core.List.{List}
+use Prim.Native.Nat.{ℕ}
+use lib.ListN.{length, replicate, length-replicate}
+use Rattle.meaning.specs.Plan.{anyPlan}
+use Rattle.telephone.proofs.Answered.{ask-refused, most-fits, ask-planned}
+use native.Mathlib.Omega.{arith}
+use borrow.Author.Needs.{needs}
+use Rattle.telephone.proofs.ask.Statement.{statement}
+use Rattle.telephone.proofs.ask.Tie as tie
+
+-- the buffer for the plan, as it is made
+abbrev blank : List ℕ
+blank = replicate anyPlan 0
+
+long : length blank ≡ anyPlan
+long = length-replicate {A = ℕ} anyPlan 0
+
+slice-aggregate-by-probe : tie.Need-slice-aggregate-by-probe
+slice-aggregate-by-probe c = search needs
+
+by-probe-requires : tie.Need-by-probe-requires
+by-probe-requires c κs = search needs
+
+returns : tie.Need-returns
+returns c =
+    let start = c .before .before .before .before .before .before .before in
+    let by = c .before .before .before .before .by-probe in
+    ask-refused (start .args .sheet .now) blank long (by .result) (by .ensures .0) (c .if1 .taken)
+
+read-requires : tie.Need-read-requires
+read-requires c κs = search needs
+
+all-packets-requires : tie.Need-all-packets-requires
+all-packets-requires c κs = search needs
+
+heaviest-requires : tie.Need-heaviest-requires
+heaviest-requires c κs = search needs
+
+at-most-requires : tie.Need-at-most-requires
+at-most-requires c κs = search needs
+
+cast-most : tie.Need-cast-most
+cast-most c =
+    let start = c .before .before .before .before .before .before .before .before .before .before .before .before .before .before in
+    let by = c .before .before .before .before .before .before .before .before .before .before .before .by-probe in
+    let passed = c .before .before .before .before .before .before .before .if1 .left in
+    let tree = c .before .before .before .before .before .before .read in
+    omega (arith, most-fits (start .args .sheet .now) blank long (by .result) (by .ensures .0) passed (tree .result) (tree .ensures) _ _ (c .at-most .ensures))
+
+returns-2 : tie.Need-returns-2
+returns-2 c =
+    let start = c .before .before .before .before .before .before .before .before .before .before .before .before .before .before in
+    let by = c .before .before .before .before .before .before .before .before .before .before .before .by-probe in
+    let passed = c .before .before .before .before .before .before .before .if1 .left in
+    let tree = c .before .before .before .before .before .before .read in
+    ask-planned (start .args .sheet .now) blank long (by .result) (by .ensures .0) passed (tree .result) (tree .ensures) _ _ _
+    (c .before .before .all-packets .ensures) (c .before .heaviest .ensures) (c .at-most .ensures)
+
+pub ask-spec : {M : Type 1} → statement M
+ask-spec =
+    tie.close
+    (tie.spec
+    slice-aggregate-by-probe
+    by-probe-requires
+    returns
+    read-requires
+    all-packets-requires
+    heaviest-requires
+    at-most-requires
+    cast-most
+    returns-2)

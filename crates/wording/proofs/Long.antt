@@ -1,0 +1,104 @@
+-- How long an answer can be: part by part, and no words of a number have more than 80 bytes.
+use mathlib.Core.Path.{_≡_, refl}
+use mathlib.Core.Bool.{Bool, true, false, cond}
+use mathlib.Core.List.{List, [], _∷_, _++_}
+use Prim.Native.Nat.{ℕ, zero, suc, _+_, _≤_, min, max}
+use Prim.Native.String.{String}
+use native.Mathlib.Omega.{arith}
+use borrow.Author.Tests.{leb-true}
+use lib.Dec.{leb}
+use lib.ListN.{length, getD, length-append}
+use Rattle.meaning.specs.declared.Outcome.{Outcome}
+use Rattle.meaning.specs.declared.Planned.{Planned}
+use Rattle.meaning.specs.declared.Verdict.{Verdict}
+use Rattle.meaning.specs.declared.Choice.{Choice}
+use Rattle.meaning.specs.declared.Choice.the-variants.{Neither, First, Second}
+use Rattle.meaning.specs.Answer.{isAccepted}
+use Rattle.meaning.specs.Lister.{text, said}
+use Rattle.lines.proofs.Decimal.{digits-most}
+use Rattle.lines.proofs.Lined.{said-length}
+use Rattle.wording.specs.Saying.{unknown, sayings, saying, refusedLine, plannedLine, verdictLine, choiceLine, choiceText}
+
+-- so many bytes at most
+record Within (bytes : List ℕ) (most : ℕ) : Type 0 where
+  short : length bytes ≤ most
+
+-- by counting; one part behind another; a word with its number
+counted : {bytes : List ℕ} {most : ℕ} → leb (length bytes) most ≡ true → Within bytes most
+counted {bytes} {most} e = record { short = leb-true (length bytes) most e }
+
+both : {xs ys : List ℕ} {a b : ℕ} → Within xs a → Within ys b → Within (xs ++ ys) (a + b)
+both {xs} {ys} h k = record { short = omega (arith, length-append xs ys, h .short, k .short) }
+
+numbered : {a : ℕ} (word : String) (n : ℕ) → Within (text word) a → Within (said word n) (a + 6)
+numbered word n h = record { short = omega (arith, said-length word n, digits-most 5 n, h .short) }
+
+-- one of two lines
+either : (test : Bool) {xs ys : List ℕ} {a b : ℕ} → a ≤ b → Within xs a → Within ys b → Within (cond test xs ys) b
+either true order h k = record { short = omega (arith, order, h .short) }
+either false order h k = k
+
+-- the longest of some words
+longest : List (List ℕ) → ℕ
+longest [] = 0
+longest (words ∷ more) = max (length words) (longest more)
+
+at-most : {k : ℕ} {words : List ℕ} → Within words k → (all : List (List ℕ)) → longest all ≤ k → (n : ℕ) → Within (getD all n words) k
+unfolding longest
+at-most w [] h n = w
+at-most {k} w (first ∷ more) h zero = let most : max (length first) (longest more) ≤ k = h in record { short = omega (arith, most) }
+at-most {k} w (first ∷ more) h (suc n) = let most : max (length first) (longest more) ≤ k = h in at-most w more (omega (arith, most)) n
+
+saying-long : (number : ℕ) → Within (saying number) 80
+unfolding longest text unknown sayings saying
+saying-long = at-most (counted refl) sayings (leb-true (longest sayings) 80 refl)
+
+-- the lines and the text
+refused-long : (outcome : Outcome) → Within (refusedLine outcome) 102
+unfolding text refusedLine
+refused-long outcome =
+    let number = numbered {a = 7} "refused" (outcome .number) (counted refl) in
+    let place = numbered {a = 0} "" (outcome .place) (counted refl) in
+    both (both (both (both number place) (counted {bytes = text ": "} {most = 2} refl)) (saying-long (outcome .number)))
+    (counted {bytes = text "\n"} {most = 1} refl)
+
+planned-long : (planned : Planned) → Within (plannedLine planned) 102
+unfolding text plannedLine
+planned-long planned =
+    let slots = numbered {a = 7} "planned" (planned .slots) (counted refl) in
+    let colours = numbered {a = 7} " slots," (planned .colours) (counted refl) in
+    let bytes = numbered {a = 9} " colours," (min (planned .bytes) 65535) (counted refl) in
+    let line = both (both (both slots colours) bytes) (counted {bytes = text " bytes\n"} {most = 7} refl) in
+    either (isAccepted (planned .outcome)) (leb-true 48 102 refl) line (refused-long (planned .outcome))
+
+verdict-long : (verdict : Verdict) → Within (verdictLine verdict) 102
+unfolding text verdictLine
+verdict-long verdict =
+    let line = both (numbered {a = 6} "passed" (verdict .slots) (counted refl)) (counted {bytes = text " slots\n"} {most = 7} refl) in
+    either (isAccepted (verdict .outcome)) (leb-true 19 102 refl) line (refused-long (verdict .outcome))
+
+choice-long : (choice : Choice) → Within (choiceLine choice) 8
+unfolding text
+choice-long First = counted refl
+choice-long Second = counted refl
+choice-long Neither = counted refl
+
+chosen-long : (choice : Choice) (first second : Verdict) → Within (choiceText choice first second) 227
+unfolding text choiceText
+chosen-long choice first second =
+    let before = counted {bytes = text "first: "} {most = 7} refl in
+    let between = counted {bytes = text "second: "} {most = 8} refl in
+    both (both (both (both (choice-long choice) before) (verdict-long first)) between) (verdict-long second)
+
+-- so any answer fits into 256 bytes
+pub refused-most : (outcome : Outcome) → length (refusedLine outcome) ≤ 256
+refused-most outcome = omega (arith, refused-long outcome .short)
+
+pub planned-most : (planned : Planned) → length (plannedLine planned) ≤ 256
+planned-most planned = omega (arith, planned-long planned .short)
+
+pub verdict-most : (verdict : Verdict) → length (verdictLine verdict) ≤ 256
+verdict-most verdict = omega (arith, verdict-long verdict .short)
+
+pub chosen-most : (choice : Choice) (first second : Verdict) → length (choiceText choice first second) ≤ 256
+chosen-most choice first second = omega (arith, chosen-long choice first second .short)

@@ -1,0 +1,55 @@
+-- `wording::put_verdict` meets its contract: a refusal has its line, and the parts of the other are put one behind the other.
+use borrow.Author.Needs.{needs}
+use mathlib.Core.Path.{sym}
+use Rattle.meaning.specs.Lister.{text}
+use Rattle.wording.proofs.Fitting.{put-whole, put-behind, put-same}
+use Rattle.wording.proofs.Saying.{passed-line, failed-line}
+use Rattle.wording.proofs.put_verdict.Statement.{statement}
+use Rattle.wording.proofs.put_verdict.Tie as tie
+
+put-refused-requires : tie.Need-put-refused-requires
+put-refused-requires c κs = search needs
+
+same-length : tie.Need-same-length
+same-length c = search needs
+
+returns : tie.Need-returns
+returns c =
+    put-same (sym (failed-line _ (c .before .before .before .before .if1 .taken))) (c .before .before .put-refused .ensures)
+
+slice-aggregate-put-said : tie.Need-slice-aggregate-put-said
+slice-aggregate-put-said c = search needs
+
+put-said-requires : tie.Need-put-said-requires
+put-said-requires c κs = search needs
+
+slice-aggregate-put-words : tie.Need-slice-aggregate-put-words
+slice-aggregate-put-words c = search needs
+
+put-words-requires : tie.Need-put-words-requires
+put-words-requires c κs = search needs
+
+same-length-2 : tie.Need-same-length-2
+same-length-2 c = search needs
+
+returns-2 : tie.Need-returns-2
+unfolding text
+returns-2 c =
+    let end = c .before .before in
+    let slots = end .before .before .before .before .before in
+    put-same (sym (passed-line (slots .before .before .before .before .before .before .before .args .verdict) (slots .before .before .before .if1 .left)))
+    (put-behind (slots .put-said .ensures) (put-whole (end .put-words .ensures)))
+
+pub put-verdict-spec : {M : Type 1} → statement M
+put-verdict-spec =
+    tie.close
+    (tie.spec
+    put-refused-requires
+    same-length
+    returns
+    slice-aggregate-put-said
+    put-said-requires
+    slice-aggregate-put-words
+    put-words-requires
+    same-length-2
+    returns-2)

@@ -1,0 +1,71 @@
+-- What the front door answers, in words: docs/NUMBERS.md, and the answers of document 01, "Numbers returned".
+use mathlib.Core.Bool.{cond}
+use mathlib.Core.List.{List, [], _∷_, _++_}
+use Prim.Native.Nat.{ℕ, min}
+use lib.ListN.{getD}
+use Rattle.meaning.specs.declared.Outcome.{Outcome}
+use Rattle.meaning.specs.declared.Planned.{Planned}
+use Rattle.meaning.specs.declared.Verdict.{Verdict}
+use Rattle.meaning.specs.declared.Choice.{Choice}
+use Rattle.meaning.specs.declared.Choice.the-variants.{Neither, First, Second}
+use Rattle.meaning.specs.Answer.{isAccepted}
+use Rattle.meaning.specs.Lister.{text, said}
+
+-- no proved answer has such a number; it is not given another's words
+unfoldable pub unknown : List ℕ
+unknown = text "no number of docs/NUMBERS.md"
+
+-- docs/NUMBERS.md, "in words": those of 1, 2, .. 17, behind those of 0
+unfoldable pub sayings : List (List ℕ)
+sayings =
+    unknown
+    ∷ text "the sheet ends too early"
+    ∷ text "the sheet counts more than 63 probes, or more pairs than its nodes have"
+    ∷ text "bytes stand behind the sheet"
+    ∷ text "the probe's parent is 0, the probe itself, or no node of the yard"
+    ∷ text "the probe has no packet, or more than 15"
+    ∷ text "the walk from the probe to its parents never reaches the gateway"
+    ∷ text "the pair does not name two nodes of the yard, the smaller first"
+    ∷ text "the pair is not above the one before it"
+    ∷ text "the plan buffer is shorter than this yard wants"
+    ∷ text "the plan has more than 65,535 slots"
+    ∷ text "the plan ends too early"
+    ∷ text "a sender of the slot is no probe of the yard"
+    ∷ text "the senders of the slot do not rise"
+    ∷ text "a sender of the slot holds no packet"
+    ∷ text "two senders of the slot conflict"
+    ∷ text "bytes stand behind the last slot"
+    ∷ text "packets are left outside the gateway"
+    ∷ []
+
+-- docs/NUMBERS.md: what a refusal's number says
+unfoldable pub saying : ℕ → List ℕ
+saying number = getD sayings number unknown
+
+-- "Numbers returned": a refusal's number and place, and the number in plain words
+unfoldable pub refusedLine : Outcome → List ℕ
+refusedLine outcome =
+    said "refused" (outcome .number) ++ said "" (outcome .place) ++ text ": " ++ saying (outcome .number) ++ text "\n"
+
+-- "Numbers returned": what a planner answers; more bytes than 65,535, which no plan of ours has, count as 65,535
+unfoldable pub plannedLine : Planned → List ℕ
+plannedLine planned =
+    cond (isAccepted (planned .outcome))
+    (said "planned" (planned .slots) ++ said " slots," (planned .colours) ++ said " colours," (min (planned .bytes) 65535) ++ text " bytes\n")
+    (refusedLine (planned .outcome))
+
+-- "Numbers returned": what the judge answers
+unfoldable pub verdictLine : Verdict → List ℕ
+verdictLine verdict =
+    cond (isAccepted (verdict .outcome)) (said "passed" (verdict .slots) ++ text " slots\n") (refusedLine (verdict .outcome))
+
+-- "Numbers returned": which of two plans the chooser hands back
+abbrev pub choiceLine : Choice → List ℕ
+choiceLine First = text "first\n"
+choiceLine Second = text "second\n"
+choiceLine Neither = text "neither\n"
+
+-- "Numbers returned": the choice, and the verdict on each of the two plans
+unfoldable pub choiceText : Choice → Verdict → Verdict → List ℕ
+choiceText choice first second =
+    choiceLine choice ++ text "first: " ++ verdictLine first ++ text "second: " ++ verdictLine second

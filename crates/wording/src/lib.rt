@@ -1,0 +1,238 @@
+// The front door's answers in words: each public function decides every byte of one, in a lent buffer.
+ghost use mathlib.Core.Path.{_≡_};
+ghost use mathlib.Core.List.{_++_};
+ghost use Prim.Native.Nat.{_≤_, _<_, min};
+ghost use lib.ListN.{length, take};
+ghost use Rattle.meaning.specs.Lister.{decimal};
+ghost use Rattle.lines.specs.Line.{lineLength, lineIn};
+ghost use Rattle.wording.specs.Saying.{saying, refusedLine, plannedLine, verdictLine, choiceLine, choiceText};
+ghost use Rattle.wording.specs.Fits.{Fits};
+use meaning::Choice;
+use meaning::Outcome;
+use meaning::Planned;
+use meaning::Verdict;
+
+// Room for any answer.
+pub const ANY_ANSWER: usize = 256;
+
+// Puts words and then a number at a place; says where they end.
+fn put_said(words: &[u8], n: u16, out: &mut [u8], at: usize) -> usize
+    ensures { λ r. ⌜ Fits (now (out .entry)) at (now (words .entry) ++ decimal 5 n) (now (out .exit)) r ⌝ }
+{
+    let next = lines::put_words(words, out, at);
+    lines::put_number(n, out, next)
+}
+
+// Puts what 1 to 3 say of a sheet as a whole, in the words of docs/NUMBERS.md, at a place; says where they end.
+fn put_of_sheet(number: u8, out: &mut [u8], at: usize) -> usize
+    requires { ⌜ number < 4 ⌝ }
+    ensures { λ r. ⌜ Fits (now (out .entry)) at (saying number) (now (out .exit)) r ⌝ }
+{
+    match number {
+        1 => lines::put_words(b"the sheet ends too early", out, at),
+        2 => lines::put_words(
+            b"the sheet counts more than 63 probes, or more pairs than its nodes have",
+            out,
+            at,
+        ),
+        3 => lines::put_words(b"bytes stand behind the sheet", out, at),
+        _ => lines::put_words(b"no number of docs/NUMBERS.md", out, at),
+    }
+}
+
+// What 4 to 8 say of a probe or a pair.
+fn put_of_node(number: u8, out: &mut [u8], at: usize) -> usize
+    requires { ⌜ (3 < number) × (number < 9) ⌝ }
+    ensures { λ r. ⌜ Fits (now (out .entry)) at (saying number) (now (out .exit)) r ⌝ }
+{
+    match number {
+        4 => lines::put_words(
+            b"the probe's parent is 0, the probe itself, or no node of the yard",
+            out,
+            at,
+        ),
+        5 => lines::put_words(b"the probe has no packet, or more than 15", out, at),
+        6 => lines::put_words(
+            b"the walk from the probe to its parents never reaches the gateway",
+            out,
+            at,
+        ),
+        7 => lines::put_words(
+            b"the pair does not name two nodes of the yard, the smaller first",
+            out,
+            at,
+        ),
+        _ => lines::put_words(b"the pair is not above the one before it", out, at),
+    }
+}
+
+// What 9 to 11 say of a plan or its buffer.
+fn put_of_plan(number: u8, out: &mut [u8], at: usize) -> usize
+    requires { ⌜ (8 < number) × (number < 12) ⌝ }
+    ensures { λ r. ⌜ Fits (now (out .entry)) at (saying number) (now (out .exit)) r ⌝ }
+{
+    match number {
+        9 => lines::put_words(b"the plan buffer is shorter than this yard wants", out, at),
+        10 => lines::put_words(b"the plan has more than 65,535 slots", out, at),
+        _ => lines::put_words(b"the plan ends too early", out, at),
+    }
+}
+
+// What 12 to 15 say of a slot.
+fn put_of_slot(number: u8, out: &mut [u8], at: usize) -> usize
+    requires { ⌜ (11 < number) × (number < 16) ⌝ }
+    ensures { λ r. ⌜ Fits (now (out .entry)) at (saying number) (now (out .exit)) r ⌝ }
+{
+    match number {
+        12 => lines::put_words(b"a sender of the slot is no probe of the yard", out, at),
+        13 => lines::put_words(b"the senders of the slot do not rise", out, at),
+        14 => lines::put_words(b"a sender of the slot holds no packet", out, at),
+        _ => lines::put_words(b"two senders of the slot conflict", out, at),
+    }
+}
+
+// What 16 and 17 say of a plan's end; no proved answer has a larger number, which is not given another's words.
+fn put_of_end(number: u8, out: &mut [u8], at: usize) -> usize
+    requires { ⌜ 15 < number ⌝ }
+    ensures { λ r. ⌜ Fits (now (out .entry)) at (saying number) (now (out .exit)) r ⌝ }
+{
+    match number {
+        16 => lines::put_words(b"bytes stand behind the last slot", out, at),
+        17 => lines::put_words(b"packets are left outside the gateway", out, at),
+        _ => lines::put_words(b"no number of docs/NUMBERS.md", out, at),
+    }
+}
+
+// Puts what a number says at a place; says where it ends.
+fn put_saying(number: u8, out: &mut [u8], at: usize) -> usize
+    ensures { λ r. ⌜ Fits (now (out .entry)) at (saying number) (now (out .exit)) r ⌝ }
+{
+    if number < 4 {
+        return put_of_sheet(number, out, at);
+    }
+    if number < 9 {
+        return put_of_node(number, out, at);
+    }
+    if number < 12 {
+        return put_of_plan(number, out, at);
+    }
+    if number < 16 {
+        return put_of_slot(number, out, at);
+    }
+    put_of_end(number, out, at)
+}
+
+// Puts the line of a refusal at a place; says where it ends.
+fn put_refused(outcome: Outcome, out: &mut [u8], at: usize) -> usize
+    ensures { λ r. ⌜ Fits (now (out .entry)) at (refusedLine outcome) (now (out .exit)) r ⌝ }
+{
+    let number = outcome.number as u16;
+    let place = outcome.place;
+    let a = put_said(b"refused ", number, out, at);
+    let b = put_said(b" ", place, out, a);
+    let d = lines::put_words(b": ", out, b);
+    let e = put_saying(outcome.number, out, d);
+    lines::put_words(b"\n", out, e)
+}
+
+// As many bytes as a plan of ours can have, and no more.
+fn few(bytes: usize) -> u16
+    ensures { λ r. ⌜ r ≡ min bytes 65535 ⌝ }
+{
+    if bytes < 65535 { bytes as u16 } else { 65535 }
+}
+
+// Puts the line of a planner's answer at a place; says where it ends.
+fn put_planned(planned: Planned, out: &mut [u8], at: usize) -> usize
+    ensures { λ r. ⌜ Fits (now (out .entry)) at (plannedLine planned) (now (out .exit)) r ⌝ }
+{
+    let outcome = planned.outcome;
+    if outcome.number != 0 {
+        return put_refused(outcome, out, at);
+    }
+    let slots = planned.slots;
+    let colours = planned.colours as u16;
+    let bytes = few(planned.bytes);
+    let a = put_said(b"planned ", slots, out, at);
+    let b = put_said(b" slots, ", colours, out, a);
+    let d = put_said(b" colours, ", bytes, out, b);
+    lines::put_words(b" bytes\n", out, d)
+}
+
+// Puts the line of a verdict at a place; says where it ends.
+fn put_verdict(verdict: Verdict, out: &mut [u8], at: usize) -> usize
+    ensures { λ r. ⌜ Fits (now (out .entry)) at (verdictLine verdict) (now (out .exit)) r ⌝ }
+{
+    let outcome = verdict.outcome;
+    if outcome.number != 0 {
+        return put_refused(outcome, out, at);
+    }
+    let a = put_said(b"passed ", verdict.slots, out, at);
+    lines::put_words(b" slots\n", out, a)
+}
+
+// Puts which of two plans was chosen at a place; says where it ends.
+fn put_choice(choice: Choice, out: &mut [u8], at: usize) -> usize
+    ensures { λ r. ⌜ Fits (now (out .entry)) at (choiceLine choice) (now (out .exit)) r ⌝ }
+{
+    match choice {
+        Choice::First => lines::put_words(b"first\n", out, at),
+        Choice::Second => lines::put_words(b"second\n", out, at),
+        Choice::Neither => lines::put_words(b"neither\n", out, at),
+    }
+}
+
+// Puts the choice and both verdicts at a place; says where they end.
+fn put_chosen(choice: Choice, first: Verdict, second: Verdict, out: &mut [u8], at: usize) -> usize
+    ensures { λ r. ⌜ Fits (now (out .entry)) at (choiceText choice first second) (now (out .exit)) r ⌝ }
+{
+    let a = put_choice(choice, out, at);
+    let b = lines::put_words(b"first: ", out, a);
+    let d = put_verdict(first, out, b);
+    let e = lines::put_words(b"second: ", out, d);
+    put_verdict(second, out, e)
+}
+
+// A refusal in words, at the start of a lent buffer; says how many bytes it has, 0 and nothing written where they do not fit.
+pub fn refused(out: &mut [u8], outcome: Outcome) -> usize
+    ensures part { λ r. ⌜ (r ≤ length (now (out .exit))) × (r ≡ length (take r (now (out .exit)))) ⌝ }
+    ensures answer { λ r. ⌜ r ≡ lineLength (now (out .entry)) (refusedLine outcome) ⌝ }
+    ensures buffer { λ _. ⌜ now (out .exit) ≡ lineIn (now (out .entry)) (refusedLine outcome) ⌝ }
+{
+    let mut line = [0u8; ANY_ANSWER];
+    let n = put_refused(outcome, &mut line, 0);
+    lines::put_words(&line[..n], out, 0)
+}
+
+// The same of a planner's answer.
+pub fn planned(out: &mut [u8], planned: Planned) -> usize
+    ensures part { λ r. ⌜ (r ≤ length (now (out .exit))) × (r ≡ length (take r (now (out .exit)))) ⌝ }
+    ensures answer { λ r. ⌜ r ≡ lineLength (now (out .entry)) (plannedLine planned) ⌝ }
+    ensures buffer { λ _. ⌜ now (out .exit) ≡ lineIn (now (out .entry)) (plannedLine planned) ⌝ }
+{
+    let mut line = [0u8; ANY_ANSWER];
+    let n = put_planned(planned, &mut line, 0);
+    lines::put_words(&line[..n], out, 0)
+}
+
+// The same of a verdict.
+pub fn verdict(out: &mut [u8], verdict: Verdict) -> usize
+    ensures part { λ r. ⌜ (r ≤ length (now (out .exit))) × (r ≡ length (take r (now (out .exit)))) ⌝ }
+    ensures answer { λ r. ⌜ r ≡ lineLength (now (out .entry)) (verdictLine verdict) ⌝ }
+    ensures buffer { λ _. ⌜ now (out .exit) ≡ lineIn (now (out .entry)) (verdictLine verdict) ⌝ }
+{
+    let mut line = [0u8; ANY_ANSWER];
+    let n = put_verdict(verdict, &mut line, 0);
+    lines::put_words(&line[..n], out, 0)
+}
+
+// The same of a choice and the verdicts on both plans.
+pub fn chosen(out: &mut [u8], choice: Choice, first: Verdict, second: Verdict) -> usize
+    ensures part { λ r. ⌜ (r ≤ length (now (out .exit))) × (r ≡ length (take r (now (out .exit)))) ⌝ }
+    ensures answer { λ r. ⌜ r ≡ lineLength (now (out .entry)) (choiceText choice first second) ⌝ }
+    ensures buffer { λ _. ⌜ now (out .exit) ≡ lineIn (now (out .entry)) (choiceText choice first second) ⌝ }
+{
+    let mut text = [0u8; ANY_ANSWER];
+    let n = put_chosen(choice, first, second, &mut text, 0);
+    lines::put_words(&text[..n], out, 0)
+}
