@@ -1,4 +1,4 @@
-// Plans and judgements a second of the proved library and of the second reading (tests/independent/second.c), on four yards: the longest sheet, sixty probes at random, a star, and document 01's yard A.
+// Plans and judgements a second of the proved library and of the second reading (tests/independent/second.c), on four yards: the longest sheet, sixty probes at random, a star, and yard A of docs/RULES.md.
 // Both answer the same calls turn by turn in one run, and first their answers are compared. Each buffer is cleared before a plan is made, outside the
 // time. speed [TURNS]
 #include "second.h"
@@ -14,7 +14,7 @@ static int turns = 21;
 static uint8_t sheet[YARD_SHEET_BYTES], buf[YARD_PLAN_BYTES], other[YARD_PLAN_BYTES];
 static size_t length;
 
-// Document 01, "Yards to try".
+// RULES, "Yards to try".
 static const uint8_t A[] = {0x03, 0x01, 0x01, 0x02, 0x01, 0x01, 0x01, 0x00, 0x00};
 
 static double now(void) {

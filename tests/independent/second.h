@@ -1,4 +1,4 @@
-// A second reading of document 01, in C and straightforward, sharing no code or table with the proved side. The tests compare the
+// A second reading of the rules (docs/RULES.md), in C and straightforward, sharing no code or table with the proved side. The tests compare the
 // library with it, and the benchmark holds the library's speed against it. Answers are those of include/yard.h.
 #ifndef SECOND_H
 #define SECOND_H

@@ -1,4 +1,4 @@
-// Compares the proved library with the second reading of document 01 on random and damaged sheets and plans.
+// Compares the proved library with the second reading of the rules on random and damaged sheets and plans.
 //   yards SEED YARDS PLANS                 compares; a case that differs is kept in files, and printed, so that it can be run again
 //   yards show ROOM SHEET [PLAN [PLAN]]    prints what both sides answer for the sheet and the plans in these files, with a buffer of ROOM bytes
 #include "second.h"

@@ -1,2 +1,2 @@
--- What the chooser's contract cites besides the meaning of document 01.
+-- What the chooser's contract cites besides the meaning of docs/RULES.md.
 pub mod Handed

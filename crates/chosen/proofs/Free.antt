@@ -1,8 +1,10 @@
 -- Who is to send if its turn comes now: the flags that the slot's writer goes by, as those chosen grow from the owners on.
-use mathlib.Core.Path.{_≡_, refl, sym, ap, ap₂, _∙_}
+use mathlib.Core.Path.{_≡_, refl, sym, ap, ap₂, _∙_, subst}
 use mathlib.Core.Bool.{Bool, true, false, cond, not, _&&_, _||_, or-true, or-false}
 use mathlib.Core.List.{List}
+use mathlib.Core.Logic.{⊎-elim}
 use Prim.Native.Nat.{ℕ, zero, suc, _+_, _≤_, _<_}
+use native.Mathlib.Numerals.{add-one}
 use native.Mathlib.Omega.{arith}
 use lib.ListN.{length, getD, set}
 use lib.Seq.{getD-set-same, getD-set-other, set-getD}
@@ -10,9 +12,10 @@ use Rattle.meaning.specs.Words.{forEach, tab, places}
 use Rattle.meaning.specs.Rounds.{clashes, joins, joined}
 use Rattle.laws.proofs.Slots.{never}
 use Rattle.laws.proofs.Joining.{joined-long}
-use Rattle.laws.proofs.Turns.{forEach-one, tab-same, getD-tab}
-use Rattle.chosen.specs.Kept.{blockedBy}
+use Rattle.laws.proofs.Turns.{below-or-last, forEach-one, tab-same, getD-tab}
+use Rattle.chosen.specs.Kept.{blockedBy, NextFree}
 use Rattle.chosen.proofs.Taking.{some-set, flag-final}
+use Rattle.chosen.proofs.Writing.{Writing, writing-pass}
 
 -- the owners, and who may and conflicts with none chosen when the first k probes have had their turn
 abbrev pub freeBy : (ℕ → ℕ → Bool) → (ℕ → Bool) → List Bool → ℕ → List Bool
@@ -110,3 +113,27 @@ module _ (relation : ℕ → ℕ → Bool) (may : ℕ → Bool) (owners : List B
           shuts false false c r = refl
           shuts false true true r = refl
           shuts false true false r = refl
+
+  -- places that are not free change nothing: at the next free place the senders so far, and who is free, are those at k
+  module _ (p : ℕ) (few : p ≤ 63) (d rest : List ℕ) (free : List Bool) (n k : ℕ) where
+    abbrev SoFar : ℕ → Type 0
+    SoFar j = Writing (λ v. getD (after p) v false) p d rest n j × (free ≡ freeBy relation may owners j)
+
+    skip-one : (j : ℕ) → j < p → getD free (j + 2) false ≡ false → SoFar j → SoFar (j + 1)
+    skip-one j h e now =
+        let small : j + 2 < places = omega arith in
+        (writing-pass _ p d rest n j (now .0) h (free-says j small free (now .1) p h ∙ e), free-pass j small free (now .1) e)
+
+    skip : SoFar k → (j : ℕ) → k ≤ j → j ≤ p → ((i : ℕ) → i < j → k ≤ i → getD free (i + 2) false ≡ false) → SoFar j
+    skip now zero h most passed =
+        let none : k ≡ 0 = omega arith in
+        subst SoFar none now
+    skip now (suc j) h most passed =
+        ⊎-elim
+        (λ (l : k < suc j).
+        rw (add-one j) at (skip-one j most (passed j (omega arith) (omega arith)) (skip now j (omega arith) (omega arith) (λ i hi. passed i (omega arith)))))
+        (λ (l : k ≡ suc j). subst SoFar l now)
+        (below-or-last k (suc j) (omega arith))
+
+    pub next-free : (r : ℕ) → NextFree free k p r → SoFar k → SoFar r
+    next-free r next now = skip now r (next .onward) (next .within) (next .passed)

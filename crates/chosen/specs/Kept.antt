@@ -2,7 +2,7 @@
 use mathlib.Core.Path.{_≡_}
 use mathlib.Core.Bool.{Bool, true, false}
 use mathlib.Core.List.{List, _∷_}
-use Prim.Native.Nat.{ℕ, _+_}
+use Prim.Native.Nat.{ℕ, _+_, _≤_, _<_}
 use lib.ListN.{length, getD, replicate}
 use Rattle.meaning.specs.Words.{tab, places, someProbe, byNode}
 use Rattle.meaning.specs.Plan.{front}
@@ -40,6 +40,13 @@ pub record Chosen (p : ℕ) (table : List (List Bool)) (own : List ℕ) (s : ℕ
   pub owned : any ≡ someProbe p (flag (ownersBy p table own s held))
   pub chose : any ≡ true → chosen ≡ ownersBy p table own s held
   pub knows : any ≡ true → blocked ≡ blockedBy (entry table) chosen
+
+-- r is the first place from k on whose probe's flag is up, or p where none below p is
+pub record NextFree (free : List Bool) (k p r : ℕ) : Type 0 where
+  pub onward : k ≤ r
+  pub within : r ≤ p
+  pub passed : (j : ℕ) → j < r → k ≤ j → flag free (j + 2) ≡ false
+  pub found : r < p → flag free (r + 2) ≡ true
 
 -- the owners of a slot and those that join them, in rising number
 abbrev pub sendersBy : ℕ → List (List Bool) → List ℕ → List Bool → List ℕ

@@ -9,7 +9,7 @@ ghost use Rattle.meaning.specs.Conflict.{entry};
 ghost use Rattle.meaning.specs.Rounds.{holds, ownersByProbe};
 ghost use Rattle.laws.specs.Few.{atMost63};
 ghost use Rattle.chosen.specs.TurnSlot.{turnBy, whole, turnLength, turnIn};
-ghost use Rattle.chosen.specs.Kept.{flag, blockedBy, Considered, Joining, nobody, Chosen, sendersBy, Written};
+ghost use Rattle.chosen.specs.Kept.{flag, blockedBy, Considered, Joining, nobody, Chosen, NextFree, sendersBy, Written};
 use meaning::Colour;
 use meaning::Probe;
 
@@ -145,6 +145,22 @@ fn shut(row: &[bool; 65], owners: &[bool; 65], free: &mut [bool; 65])
     }
 }
 
+// The first place from k on whose probe is free to send, p where there is none below p: nothing else is done on the way, since few are free.
+fn next_free(free: &[bool; 65], k: u8, p: u8) -> u8
+    requires small { ⌜ p ≤ 63 ⌝ }
+    requires within { ⌜ k ≤ p ⌝ }
+    ensures { λ r. ⌜ NextFree (now (free .entry)) k p r ⌝ }
+{
+    let mut j = k;
+    while j < p {
+        if free[(j + 2) as usize] {
+            return j;
+        }
+        j += 1;
+    }
+    j
+}
+
 // Writes the slot of these owners, and of those that join them, at the start of the rest of the buffer; says how many bytes it took.
 fn write_senders(
     rest: &mut [u8],
@@ -165,14 +181,13 @@ fn write_senders(
     let mut n: usize = 0;
     let mut k: u8 = 0;
     while k < p {
-        let v = k + 2;
-        let i = v as usize;
-        if free[i] {
+        k = next_free(&free, k, p);
+        if k < p {
             n += 1;
-            rest[n] = v;
-            shut(&table[i], owners, &mut free);
+            rest[n] = k + 2;
+            shut(&table[(k + 2) as usize], owners, &mut free);
+            k += 1;
         }
-        k += 1;
     }
     rest[0] = n as u8;
     n + 1

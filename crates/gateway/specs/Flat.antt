@@ -1,4 +1,4 @@
--- The answers of document 01 as C sees them.
+-- The answers of RULES, "Numbers returned" and "The telephone", as C sees them.
 use Prim.Native.Nat.{ℕ}
 use Rattle.meaning.specs.declared.Planned.{Planned}
 use Rattle.meaning.specs.declared.Verdict.{Verdict}

@@ -1,5 +1,5 @@
--- Document 01: after each slot the packets in probes and gateway together equal the sheet's total, whatever the plan. Each turn keeps them, so all
--- turns do; and what the nodes hold before the first slot is what the probes have.
+-- RULES, "Numbers returned": after each slot the packets in probes and gateway together equal the sheet's total, whatever the plan. Each turn keeps them,
+-- so all turns do; and what the nodes hold before the first slot is what the probes have.
 use mathlib.Core.Path.{_≡_, _∙_}
 use mathlib.Core.Bool.{Bool, true, false, cond}
 use mathlib.Core.List.{List}
@@ -50,7 +50,7 @@ abbrev pub packetsAfter : (s plan : List ℕ) → (k : ℕ) → ℕ
 packetsAfter s plan k =
     weigh (λ _. 1) (slotsJudged (probeCount s) (parentOf s) (entry (conflictTable s)) plan k (judgingFrom 2 (tab places (packetsOf s))) .held)
 
--- document 01, of an accepted sheet and any plan
+-- RULES, of an accepted sheet and any plan
 pub conserved : (s plan : List ℕ) (k : ℕ) → isAccepted (sheetTest s) ≡ true → packetsAfter s plan k ≡ allPackets s
 conserved s plan k h =
     let few = few-probes s h in

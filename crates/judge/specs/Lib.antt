@@ -1,2 +1,2 @@
--- What the judge's code is measured by, besides the meaning of document 01.
+-- What the judge's code is measured by, besides the meaning of docs/RULES.md.
 pub mod SlotTurn

@@ -121,7 +121,7 @@ passed-record records p k h =
       packets-most = ltb-false 15 (secondOf records k) (packets .1);
     }
 
--- what document 01 says of each probe of an accepted sheet
+-- what RULES says of each probe of an accepted sheet
 pub record AcceptedProbe (s : List ℕ) (v : ℕ) : Type 0 where
   pub parent-least : 1 ≤ parentOf s v
   pub parent-most : parentOf s v ≤ probeCount s + 1
@@ -130,7 +130,7 @@ pub record AcceptedProbe (s : List ℕ) (v : ℕ) : Type 0 where
   pub packets-most : packetsOf s v ≤ 15
   pub arrives : reaches (parentOf s) 1 (probeCount s) v ≡ true
 
--- what document 01 says of an accepted sheet
+-- what RULES says of an accepted sheet
 pub record AcceptedYard (s : List ℕ) : Type 0 where
   pub few : probeCount s ≤ 63
   pub few-pairs : pairCount s ≤ 2016

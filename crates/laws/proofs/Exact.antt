@@ -14,7 +14,6 @@ use lib.ListN.{length, getD, take, drop, length-append, length-drop, List·getD-
 use lib.Seq.{take-suc, take-add, take-all, take-at, drop-at, drop-drop, getD-drop, length-take-le}
 use borrow.Author.Tests.{ltb-true, ltb-false, lt-ltb, le-ltb, lt-leb}
 use Rattle.meaning.specs.declared.Outcome.{Outcome}
-use Rattle.meaning.specs.declared.Verdict.{Verdict}
 use Rattle.meaning.specs.Words.{forEach}
 use Rattle.meaning.specs.Sheet.{twoAt, probeCount, pairCount, pairRecords, parentOf, interfere}
 use Rattle.meaning.specs.Conflict.{entry, conflictTable}
@@ -375,12 +374,3 @@ good-bytes s plan good k = go (decLt k (length plan))
     go : Dec (k < length plan) → getD plan k 0 < 256
     go (yes l) = each-at (λ b. b < 256) plan (subst (λ (l : List ℕ). Each (λ b. b < 256) l) (sym (good .written)) all) k l
     go (no l) = omega (arith, List·getD-eq-default plan 0 {n = k} (omega arith))
-
--- so a plan is passed exactly where it is good, and the slots that the judge counts are those of the plan
-pub judge-exact : (s plan : List ℕ) → getD plan 0 0 < 256 → getD plan 1 0 < 256
-    → (isAccepted (judge s plan .outcome) ≡ true → (good : Good s plan) × (judge s plan .slots ≡ length (good .slots)))
-    × (Good s plan → isAccepted (judge s plan .outcome) ≡ true)
-judge-exact s plan high low = (
-  λ h. let good = passed-good s plan high low h in (good, ap (λ (v : Verdict). v .slots) (good-passed s plan good)),
-  λ good. ap (λ (v : Verdict). isAccepted (v .outcome)) (good-passed s plan good),
-)

@@ -147,14 +147,3 @@ moved-keeps parent u (v ∷ slot) held hl hu others =
 -- no node holds more than all together
 pub in-all : (held : List ℕ) (u : ℕ) → u < places → getD held u 0 ≤ weigh (λ _. 1) held
 in-all held u h = omega (arith, in-sum places (λ k. getD held k 0 * 1) u h)
-
--- a node's packets, when one has left v, are still no more than all together
-pub less-few : (held : List ℕ) (v q most : ℕ) → length held ≡ places → v < places → q < places → weigh (λ _. 1) held ≤ most
-    → getD (set held v (getD held v 0 - 1)) q 0 ≤ most
-less-few held v q most long hv hq few =
-    ⊎-elim
-    (λ (e : q ≡ v).
-    rw e
-    (rw (getD-set-same held v (getD held v 0 - 1) 0 (omega arith)) (omega (arith, in-all held v hv))))
-    (λ (e : q ≢ v). rw (getD-set-other held v q (getD held v 0 - 1) 0 e) (omega (arith, in-all held q hq)))
-    (same-or-other q v)

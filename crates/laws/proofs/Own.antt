@@ -1,6 +1,6 @@
 -- Our own plans pass. Each slot that a turn makes is legal; while a packet is outside, a round makes a slot, so that the hops are rounds enough;
 -- and each slot takes a hop at least, so that the slots are no more than the hops. Then the judge, being exact, passes the plan. This goes for any way
--- whose owners have the four facts of `Fair`, and then for the two ways.
+-- whose owners have the three facts of `Fair`, and then for the two ways.
 use mathlib.Core.Path.{_≡_, refl, sym, ap, ap₂, _∙_, subst}
 use mathlib.Core.Bool.{Bool, true, false, cond, _&&_}
 use mathlib.Core.List.{List, [], _∷_}
@@ -27,16 +27,14 @@ use Rattle.laws.proofs.Moving.{Each, length-moved}
 use Rattle.laws.proofs.Slots.{Only, and-left, and-right, never, true-or-false, only-joined, each-slot, rising-slot}
 use Rattle.laws.proofs.Accepted.{accepted-yard}
 use Rattle.laws.proofs.Exact.{table-clash, slot-bytes-append, held-append, runs-append, none-outside, good-passed}
-use Rattle.laws.proofs.Joining.{Chosen, Free, nobody-chosen, joined-long, free-joined, one-joined, each-chosen, owned-slot}
+use Rattle.laws.proofs.Joining.{Chosen, Free, nobody-chosen, free-joined, one-joined, each-chosen, owned-slot}
 use Rattle.laws.proofs.Grounds.{level-least, hopsLeft, first-left, hops-most}
 use Rattle.laws.proofs.Recorded.{recorded-none}
 use Rattle.laws.proofs.Running.{each-at, rising-at, none-left, legal-left}
 use Rattle.laws.proofs.Levels.{most-holds, table-conflicts, probes-proper, level-deep, depth-most, levels-proper}
 
--- what the owners of a colour's slot have to be: flags by node, each of which holds, no two of which conflict; and whoever holds a packet, some
--- colour has an owner
+-- what the owners of a colour's slot have to be: each may send, no two conflict; and whoever may send, some colour has an owner
 pub record Fair (s : List ℕ) (owners : ℕ → (ℕ → Bool) → List Bool) (colours : ℕ) : Type 0 where
-  pub long : (c : ℕ) (may : ℕ → Bool) → length (owners c may) ≡ places
   pub only : (c : ℕ) (may : ℕ → Bool) → Only may (owners c may)
   pub free : (c : ℕ) (may : ℕ → Bool) → Free (entry (conflictTable s)) (owners c may)
   pub served : (may : ℕ → Bool) (v : ℕ) → isProbe (probeCount s) v ≡ true → may v ≡ true
@@ -315,7 +313,6 @@ module _ (s : List ℕ) (ok : isAccepted (sheetTest s) ≡ true) where
   unfolding ownersByProbe
   by-probe-fair =
       record {
-        long = λ c may. length-tab places _;
         only = λ c may v e. and-right (eqb (probeColour v) c) (may v) (chosen-tab _ v e);
         free =
             λ c may x y hx hy.
@@ -349,7 +346,6 @@ module _ (s : List ℕ) (ok : isAccepted (sheetTest s) ≡ true) where
   unfolding ownersByLevel
   by-level-fair =
       record {
-        long = λ c may. joined-long (entry (conflictTable s)) _ (probeCount s) (replicate places false);
         only =
             λ c may v e.
             and-right (eqb (levelColour v) c) (may v)
@@ -377,10 +373,4 @@ module _ (s : List ℕ) (ok : isAccepted (sheetTest s) ≡ true) where
   pub by-level-plan : OwnPlan s (byLevel s)
   unfolding byLevel
   by-level-plan = own-plan s ok (ownersByLevel (probeCount s) (entry (conflictTable s)) levelColour) (coloursUsed (levelColours s)) by-level-fair
-
   -- the judge passes our plans of an accepted sheet, and counts their slots
-  pub by-probe-passed : judge s (planBytes (slotsOf s (byProbe s))) ≡ record { outcome = accepted; slots = length (slotsOf s (byProbe s)) }
-  by-probe-passed = by-probe-plan .passed
-
-  pub by-level-passed : judge s (planBytes (slotsOf s (byLevel s))) ≡ record { outcome = accepted; slots = length (slotsOf s (byLevel s)) }
-  by-level-passed = by-level-plan .passed

@@ -1,4 +1,4 @@
--- Document 01, "Numbers of the yard": a yard has at most 63 probes.
+-- RULES, "Numbers of the yard": a yard has at most 63 probes.
 use Prim.Native.Nat.{ℕ, min}
 
 -- as many probes as a yard may have: a larger number counts as 63

@@ -14,10 +14,10 @@ use Rattle.meaning.specs.declared.Planned.{Planned}
 use Rattle.meaning.specs.Sheet.{decidingSheet, twoAt, probeCount, pairCountAt, pairCount, sheetLength}
 use Rattle.meaning.specs.Plan.{anyPlan}
 use Rattle.meaning.specs.Rounds.{Way, byProbe, slotsOf}
-use Rattle.meaning.specs.Answer.{isAccepted, given, _then_, countsTest, sheetTest, planTest, refusedPlan, PlanMade, planMade}
+use Rattle.meaning.specs.Answer.{isAccepted, given, _then_, countsTest, sheetTest, refusedPlan, PlanMade, planMade}
 use Rattle.meaning.specs.Judge.{planJudged, judge}
 use Rattle.meaning.specs.Lister.{firstLine, slotLines, refusalLine, list, listing}
-use Rattle.laws.proofs.PlanMade.{tested, nothing, makes}
+use Rattle.laws.proofs.PlanMade.{nothing, makes, sheet-refuses}
 use Rattle.laws.proofs.Accepted.{then-stays, pairs-of-few}
 
 -- the tests of the counts, of what each asks
@@ -127,9 +127,8 @@ module _ (s : List ℕ) (long : decidingSheet ≤ length s) where
 -- a refused sheet: the planner, the judge and the lister answer by the sheet's test alone
 module _ (s : List ℕ) (refused : isAccepted (sheetTest s) ≡ false) where
   plan-refused : (by : List ℕ → Way) (room : ℕ) → planMade by s room ≡ nothing by s room (sheetTest s)
-  unfolding planTest
   plan-refused by room =
-      let stays : tested by s room ≡ sheetTest s = then-stays (sheetTest s) _ refused in
+      let stays = sheet-refuses by s room refused in
       makes by s room false (ap isAccepted stays ∙ refused) ∙ ap (nothing by s room) stays
 
   text-refused : list s ≡ refusalLine (sheetTest s)

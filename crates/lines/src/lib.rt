@@ -67,19 +67,6 @@ pub fn put_words(bytes: &[u8], out: &mut [u8], at: usize) -> usize
     put_text(bytes, out, at)
 }
 
-// Puts a number at a place, in decimal, or nothing where it does not fit; says where it ends.
-pub fn put_number(n: u16, out: &mut [u8], at: usize) -> usize
-    ensures { λ r. ⌜ Put (now (out .entry)) at (fitting (now (out .entry)) at (decimal 5 n)) (now (out .exit)) r ⌝ }
-{
-    if out.len() < at {
-        return at;
-    }
-    if out.len() - at < digits(5, n) as usize {
-        return at;
-    }
-    put_digits(5, n, out, at)
-}
-
 // Puts words and then a number at a place; says where they end.
 fn put_said(words: &[u8], n: u16, out: &mut [u8], at: usize) -> usize
     requires { ⌜ at + length (now words ++ decimal 5 n) ≤ length (now out) ⌝ }
@@ -87,6 +74,23 @@ fn put_said(words: &[u8], n: u16, out: &mut [u8], at: usize) -> usize
 {
     let next = put_text(words, out, at);
     put_digits(5, n, out, next)
+}
+
+// Puts words and then a number at a place, or nothing where they do not all fit; says where they end.
+pub fn put_counted(words: &[u8], n: u16, out: &mut [u8], at: usize) -> usize
+    ensures { λ r. ⌜ Put (now (out .entry)) at (fitting (now (out .entry)) at (now (words .entry) ++ decimal 5 n)) (now (out .exit)) r ⌝ }
+{
+    if out.len() < at {
+        return at;
+    }
+    let room = out.len() - at;
+    if room < words.len() {
+        return at;
+    }
+    if room - words.len() < digits(5, n) as usize {
+        return at;
+    }
+    put_said(words, n, out, at)
 }
 
 // A refusal's line: its number and place.

@@ -5,9 +5,8 @@ use mathlib.Core.List.{List, _++_}
 use mathlib.Core.Logic.{_≢_}
 use Prim.Native.Nat.{ℕ, _+_, _-_, _≤_, _<_}
 use native.Mathlib.Omega.{arith}
-use borrow.Author.Tests.{eq-eqb, ne-eqb, le-leb, lt-leb, ltb-false}
+use borrow.Author.Tests.{eq-eqb, ne-eqb, le-leb, lt-leb}
 use borrow.Rule.Slice.PartMut.{putMid}
-use lib.Dec.{ltb}
 use lib.ListN.{length, take, drop, length-append, length-drop}
 use lib.Seq.{length-take-le}
 use Rattle.meaning.specs.declared.Planned.{Planned}
@@ -17,8 +16,7 @@ use Rattle.meaning.specs.Rounds.{byProbe, slotsOf}
 use Rattle.meaning.specs.Answer.{isAccepted, sheetTest, planTest, PlanMade, planMade}
 use Rattle.meaning.specs.Legal.{heldFirst, Runs}
 use Rattle.meaning.specs.Lister.{anyText, firstLine, slotLines, refusalLine, list, numbersLine}
-use Rattle.laws.proofs.Accepted.{then-accepted, given-accepted}
-use Rattle.laws.proofs.PlanMade.{whole, makes, made-outcome}
+use Rattle.laws.proofs.PlanMade.{whole, makes, tests-accept, planned-sheet, planned-room}
 use Rattle.laws.proofs.Own.{by-probe-plan}
 use Rattle.lines.specs.Line.{lineLength, lineIn}
 use Rattle.laws.proofs.Lists.{length-front}
@@ -80,21 +78,17 @@ module _ (s : List ℕ) (buf : List ℕ) (long : length buf ≡ anyPlan) (planne
 
   -- a plan
   module _ (passed : planned .outcome .number ≡ 0) where
-    accepts : isAccepted (planTest s (length buf) slots) ≡ true
-    accepts = ap isAccepted (sym (ap (λ (p : Planned). p .outcome) is ∙ made-outcome byProbe s (length buf))) ∙ eq-eqb (planned .outcome .number) 0 passed
+    plans : isAccepted (planMade byProbe s (length buf) .answer .outcome) ≡ true
+    plans = ap (λ (p : Planned). isAccepted (p .outcome)) (sym is) ∙ eq-eqb (planned .outcome .number) 0 passed
 
     made : planMade byProbe s (length buf) ≡ whole byProbe s (length buf) (planTest s (length buf) slots)
-    made = makes byProbe s (length buf) true accepts
+    made = makes byProbe s (length buf) true (tests-accept byProbe s (length buf) plans)
 
     pub sheet-passed : isAccepted (sheetTest s) ≡ true
-    unfolding planTest
-    sheet-passed = then-accepted (sheetTest s) _ accepts .0
+    sheet-passed = planned-sheet byProbe s (length buf) plans
 
     room-passed : roomFor (hops s) ≤ length buf
-    unfolding planTest
-    room-passed =
-        ltb-false (length buf) (roomFor (hops s))
-        (given-accepted 9 0 (ltb (length buf) (roomFor (hops s))) refl (then-accepted _ _ (then-accepted (sheetTest s) _ accepts .1) .0))
+    room-passed = planned-room byProbe s (length buf) plans
 
     counted : planned .slots ≡ length slots
     counted = ap (λ (p : Planned). p .slots) is ∙ ap (λ (m : PlanMade). m .answer .slots) made

@@ -1,4 +1,4 @@
--- Document 01, "The lister": the whole text in a lent buffer.
+-- RULES, "The lister": the whole text in a lent buffer.
 use mathlib.Core.Path.{_≡_}
 use mathlib.Core.Bool.{cond}
 use mathlib.Core.List.{List, _++_}

@@ -1,4 +1,4 @@
--- Document 01, "Yards to try": the yards that are proved, as rows of one table under one claim, computed from the definitions. For each
+-- RULES, "Yards to try": the yards that are proved, as rows of one table under one claim, computed from the definitions. For each
 -- number there is its least case and the case beside it, for each two tests an input to which both apply. What takes few steps stands first: a wrong
 -- definition is then refused soon, and one claim has no more than fifty million steps.
 use mathlib.Core.Bool.{Bool, true, false, cond, _&&_}
@@ -23,7 +23,7 @@ use Rattle.meaning.specs.Judge.{Judging, slotTest, slotJudged, slotsJudg
 use Rattle.meaning.specs.Lister.{text, decimal, numbersLine, sendersText, refusalLine, slotLine, slotLines, list, listing}
 use Rattle.meaning.specs.Telephone.{asked}
 
--- a sheet, a plan or a buffer as document 01 writes it: two digits a byte, one space between
+-- a sheet, a plan or a buffer as RULES writes it: two digits a byte, one space between
 digit : ℕ → ℕ
 digit c = cond (ltb c 58) (c - 48) (c - 87)
 

@@ -1,4 +1,4 @@
--- Document 01, "Numbers returned": the tests of a sheet in their order, and a planner's whole answer.
+-- RULES, "Numbers returned": the tests of a sheet in their order, and a planner's whole answer.
 use mathlib.Core.Bool.{Bool, cond, not, _&&_, _||_}
 use mathlib.Core.List.{[]}
 use Prim.Native.Nat.{ℕ, _+_, _-_, _*_, _/_}

@@ -1,4 +1,4 @@
--- Document 01, "Conflicts", after section 2 of the paper.
+-- RULES, "Conflicts", after section 2 of the paper.
 use mathlib.Core.Bool.{Bool, false, not, _&&_, _||_}
 use mathlib.Core.List.{List, []}
 use Prim.Native.Nat.{ℕ}

@@ -1,4 +1,4 @@
--- Document 01, "Numbers returned": the judge and the chooser.
+-- RULES, "Numbers returned": the judge and the chooser.
 use mathlib.Core.Bool.{Bool, cond, not, _&&_, _||_}
 use mathlib.Core.List.{List}
 use Prim.Native.Nat.{ℕ, _+_, _-_}

@@ -1,4 +1,4 @@
--- What a good plan is, told without a judge: its bytes are those of slots that are legal one after the other and that bring every packet in.
+-- RULES, "A good plan", told without a judge: its bytes are those of slots that are legal one after the other and that bring every packet in.
 use mathlib.Core.Path.{_≡_}
 use mathlib.Core.Bool.{true, false}
 use mathlib.Core.List.{List, [], _∷_}

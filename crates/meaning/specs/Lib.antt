@@ -1,4 +1,4 @@
--- The meaning of document 01, in its order: a reader starts at the top and never needs a later file.
+-- The meaning of RULES, which is docs/RULES.md, in its order: a reader starts at the top and never needs a later file.
 pub mod Words
 pub mod Yard
 pub mod Sheet

@@ -1,4 +1,4 @@
--- Document 01, "The lister": what is printed for the bytes on standard input.
+-- RULES, "The lister": what is printed for the bytes on standard input.
 use mathlib.Core.Bool.{cond}
 use mathlib.Core.List.{List, [], _∷_, _++_}
 use Prim.Native.Nat.{ℕ, zero, suc, _+_, _/_, _%_}
@@ -51,8 +51,11 @@ slotLines done [] = []
 slotLines done (slot ∷ slots) = slotLine (suc done) slot ++ slotLines (suc done) slots
 
 -- "The lister": a refusal prints only its number and place
+abbrev pub refusal : Outcome → Bytes
+refusal outcome = said "refused" (outcome .number) ++ said "" (outcome .place)
+
 abbrev pub refusalLine : Outcome → Bytes
-refusalLine outcome = said "refused" (outcome .number) ++ said "" (outcome .place) ++ text "\n"
+refusalLine outcome = refusal outcome ++ text "\n"
 
 -- "The lister": room for any text: line one has at most 55 bytes, and ten bytes are enough for each of at most 30,240 hops
 abbrev pub anyText : ℕ

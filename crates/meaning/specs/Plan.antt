@@ -1,4 +1,4 @@
--- Document 01, "The plan in bytes".
+-- RULES, "The plan in bytes".
 use mathlib.Core.List.{List, [], _∷_, _++_}
 use Prim.Native.Nat.{ℕ, zero, suc, _+_, _*_, _/_, _%_}
 use lib.ListN.{length, getD, take, drop}

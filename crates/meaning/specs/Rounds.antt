@@ -1,4 +1,4 @@
--- Document 01, "The two plans", after figures 3 and 5 of the paper.
+-- RULES, "The two plans", after figures 3 and 5 of the paper.
 use mathlib.Core.Bool.{Bool, false, true, cond, not, _&&_}
 use mathlib.Core.List.{List, [], _∷_, _++_}
 use Prim.Native.Nat.{ℕ, _+_, _-_}

@@ -1,4 +1,4 @@
--- Document 01, "The yard sheet in bytes": what stands where in a sheet s. Outside the yard every number is 0.
+-- RULES, "The yard sheet in bytes": what stands where in a sheet s. Outside the yard every number is 0.
 use mathlib.Core.Bool.{Bool, cond, _&&_, _||_}
 use Prim.Native.Nat.{ℕ, _+_, _-_, _*_}
 use lib.Dec.{eqb}

@@ -1,4 +1,4 @@
--- Demand 3, on the telephone: how many slots at least, in our plan by probe, and at most.
+-- RULES, "The telephone", for demand 3: how many slots at least, in our plan by probe, and at most.
 use mathlib.Core.Bool.{cond}
 use Prim.Native.Nat.{ℕ, _*_, min}
 use Rattle.meaning.specs.declared.Told.{Told}

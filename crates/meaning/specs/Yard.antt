@@ -1,4 +1,4 @@
--- Document 01, "Numbers of the yard": probes, levels, hops; and the packets of a branch, for demand 3.
+-- RULES, "Numbers of the yard": probes, levels, hops; and the packets of a branch, for demand 3.
 use mathlib.Core.Bool.{Bool, cond, _&&_, _||_}
 use Prim.Native.Nat.{ℕ, zero, suc, _+_, _*_}
 use lib.Dec.{eqb, leb}

@@ -1,4 +1,4 @@
-// The yard's own numbers and answers. Their meaning, after document 01, stands in specs/.
+// The yard's own numbers and answers. Their meaning, after docs/RULES.md, stands in specs/.
 ghost use mathlib.Core.Path.{_≡_};
 ghost use Rattle.meaning.specs.Answer.{refusedPlan};
 
@@ -29,7 +29,7 @@ pub struct Colour(pub u8);
 // A slot's number, from 1.
 pub struct Slot(pub u16);
 
-// A number of document 01's table and its place; both are 0 where nothing is wrong.
+// A number of the table in RULES, "Numbers returned", and its place; both are 0 where nothing is wrong.
 pub struct Outcome {
     pub number: u8,
     pub place: u16,

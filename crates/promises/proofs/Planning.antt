@@ -3,7 +3,7 @@ use mathlib.Core.Path.{_≡_, refl, sym, ap, ap₂, _∙_}
 use mathlib.Core.Bool.{Bool, true, false}
 use Prim.Native.Nat.{_*_, _≤_}
 use native.Mathlib.Omega.{arith}
-use borrow.Author.Tests.{ltb-true, ltb-false, le-ltb, lt-ltb}
+use borrow.Author.Tests.{ltb-true, ltb-false, lt-ltb}
 use lib.Dec.{ltb}
 use lib.ListN.{length, take, drop}
 use lib.Seq.{take-at}
@@ -16,10 +16,9 @@ use Rattle.meaning.specs.Rounds.{byProbe, byLevel}
 use Rattle.meaning.specs.Answer.{accepted, isAccepted, given, _then_, sheetTest, planTest, refusedPlan, PlanMade, planMade}
 use Rattle.meaning.specs.Judge.{judge}
 use Rattle.laws.proofs.Accepted.{then-goes, then-stays}
-use Rattle.laws.proofs.Exact.{passes, gives-none}
 use Rattle.laws.proofs.Grounds.{hops-most}
 use Rattle.laws.proofs.Own.{OwnPlan, by-probe-plan, by-level-plan}
-use Rattle.laws.proofs.PlanMade.{tested, whole, nothing, makes}
+use Rattle.laws.proofs.PlanMade.{tested, whole, nothing, makes, sheet-refuses, room-passes}
 use Rattle.limits.proofs.Deciding.{plan-made-decided}
 use Rattle.limits.proofs.Hops.{hops-limit}
 use Rattle.limits.proofs.MostByProbe.{by-probe-most}
@@ -41,11 +40,7 @@ module _ (planner : Planner) (s buffer : Bytes) where
   its = tested (way planner) s (length buffer)
 
   tests-pass : Accepted s → Room s buffer → its ≡ accepted
-  unfolding planTest
-  tests-pass ok room =
-      then-goes (sheetTest s) _ ok
-      ∙ passes 9 0 _ _ (le-ltb (length buffer) (roomFor (hops s)) room)
-      ∙ gives-none 10 0 _ (le-ltb 65535 (length (slotsBy planner s)) (omega (arith, own planner s ok .few, hops-most s ok)))
+  tests-pass ok room = room-passes (way planner) s (length buffer) ok room (omega (arith, own planner s ok .few, hops-most s ok))
 
   pub plans : Accepted s → Room s buffer → Answers planner s buffer (counted planner s) (front buffer (planBytes (slotsBy planner s)))
   plans ok room =
@@ -59,8 +54,7 @@ module _ (planner : Planner) (s buffer : Bytes) where
       (makes (way planner) s (length buffer) false (ap isAccepted is ∙ not0) ∙ ap (nothing (way planner) s (length buffer)) is)
 
   pub refuses-sheet : Refused s → Answers planner s buffer (refusedPlan (sheetTest s)) buffer
-  unfolding planTest
-  refuses-sheet refused = refuses (sheetTest s) (then-stays (sheetTest s) _ refused) refused
+  refuses-sheet refused = refuses (sheetTest s) (sheet-refuses (way planner) s (length buffer) refused) refused
 
   pub refuses-short : Accepted s → Short s buffer → Answers planner s buffer (refusedPlan (record { number = 9; place = 0 })) buffer
   unfolding planTest

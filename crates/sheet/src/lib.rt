@@ -316,7 +316,7 @@ fn refused(outcome: Outcome) -> Tree
     }
 }
 
-// Reads a sheet whole, by the tests in document 01's order: counts, probes, walks, pairs.
+// Reads a sheet whole, by the tests in the order of RULES, "Numbers returned": counts, probes, walks, pairs.
 pub fn read(sheet: &[u8]) -> Tree
     ensures { λ r. ⌜ r ≡ treeOf (now (sheet .entry)) ⌝ }
 {

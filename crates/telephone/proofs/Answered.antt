@@ -14,10 +14,9 @@ use Rattle.meaning.specs.Yard.{heaviestOf}
 use Rattle.meaning.specs.Sheet.{allPackets}
 use Rattle.meaning.specs.Plan.{anyPlan}
 use Rattle.meaning.specs.Rounds.{byProbe}
-use Rattle.meaning.specs.Answer.{isAccepted, sheetTest, planTest, planMade}
+use Rattle.meaning.specs.Answer.{isAccepted, sheetTest, planMade}
 use Rattle.meaning.specs.Telephone.{atMost, asked}
-use Rattle.laws.proofs.Accepted.{then-accepted}
-use Rattle.laws.proofs.PlanMade.{made-outcome}
+use Rattle.laws.proofs.PlanMade.{planned-sheet}
 use Rattle.laws.proofs.Grounds.{hops-most}
 use Rattle.sheet.specs.declared.Tree.{Tree}
 use Rattle.sheet.specs.Tree.{treeOf}
@@ -50,11 +49,7 @@ module _ (s : List ℕ) (buf : List ℕ) (long : length buf ≡ anyPlan) (planne
     accepts = eq-eqb (planned .outcome .number) 0 passed
 
     sheet-passed : isAccepted (sheetTest s) ≡ true
-    unfolding planTest
-    sheet-passed =
-        then-accepted (sheetTest s) _
-        (ap isAccepted (sym (ap (λ (p : Planned). p .outcome) is ∙ made-outcome byProbe s (length buf))) ∙ accepts)
-        .0
+    sheet-passed = planned-sheet byProbe s (length buf) (ap (λ (p : Planned). isAccepted (p .outcome)) (sym is) ∙ accepts)
 
     module _ (tree : Tree) (read : tree ≡ treeOf s) where
       its : Standing s tree

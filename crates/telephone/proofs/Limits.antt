@@ -1,25 +1,23 @@
 -- The limits hold of the telephone's answer: neither room nor count refuses an accepted sheet, so that its answer is whole, and what limits all plans limits ours.
-use mathlib.Core.Path.{_≡_, refl, sym, ap, ap₂, _∙_, subst}
+use mathlib.Core.Path.{_≡_, refl, sym, ap, _∙_, subst}
 use mathlib.Core.Bool.{Bool, true, false, cond}
 use mathlib.Core.List.{List}
 use mathlib.Core.Logic.{⊎-elim}
 use Prim.Native.Nat.{ℕ, _≤_}
 use native.Mathlib.Omega.{arith}
-use borrow.Author.Tests.{le-ltb}
 use lib.ListN.{length}
 use Rattle.meaning.specs.declared.Outcome.{Outcome}
 use Rattle.meaning.specs.declared.Told.{Told}
 use Rattle.meaning.specs.declared.Verdict.{Verdict}
-use Rattle.meaning.specs.Sheet.{hops, allPackets}
+use Rattle.meaning.specs.Sheet.{allPackets}
 use Rattle.meaning.specs.Colour.{coloursUsed, probeColours}
-use Rattle.meaning.specs.Plan.{planBytes, roomFor, anyPlan}
+use Rattle.meaning.specs.Plan.{planBytes, anyPlan}
 use Rattle.meaning.specs.Rounds.{byProbe, slotsOf}
-use Rattle.meaning.specs.Answer.{accepted, isAccepted, given, _then_, sheetTest, planTest, refusedPlan, PlanMade}
+use Rattle.meaning.specs.Answer.{accepted, isAccepted, sheetTest, planTest, refusedPlan, PlanMade}
 use Rattle.meaning.specs.Judge.{judge}
 use Rattle.meaning.specs.Telephone.{atMost, asked}
 use Rattle.laws.proofs.Slots.{true-or-false}
-use Rattle.laws.proofs.Accepted.{then-stays, then-goes}
-use Rattle.laws.proofs.PlanMade.{makes}
+use Rattle.laws.proofs.PlanMade.{makes, sheet-refuses, room-passes}
 use Rattle.laws.proofs.Own.{OwnPlan, by-probe-plan}
 use Rattle.limits.proofs.Hops.{hops-limit}
 use Rattle.limits.proofs.Fewest.{slots-least}
@@ -36,12 +34,9 @@ module _ (s : List ℕ) where
     own = by-probe-plan s ok
 
     tests-pass : planTest s anyPlan slots ≡ accepted
-    unfolding planTest _then_
     tests-pass =
-        then-goes (sheetTest s) _ ok
-        ∙ ap₂ (λ (short many : Bool). given 9 0 short then given 10 0 many)
-        (le-ltb anyPlan (roomFor (hops s)) (omega (arith, hops-limit s ok)))
-        (le-ltb 65535 (length slots) (omega (arith, own .few, hops-limit s ok)))
+        let most = hops-limit s ok in
+        room-passes byProbe s anyPlan ok (omega (arith, most)) (omega (arith, own .few, most))
 
     -- Demand 3: it is answered, and never by 9 or 10: at least all packets, our plan's slots, and at most the smaller of the two
     pub answered : asked s
@@ -64,8 +59,7 @@ module _ (s : List ℕ) where
   -- a refused sheet
   module _ (refused : isAccepted (sheetTest s) ≡ false) where
     tests-refuse : planTest s anyPlan slots ≡ sheetTest s
-    unfolding planTest
-    tests-refuse = then-stays (sheetTest s) _ refused
+    tests-refuse = sheet-refuses byProbe s anyPlan refused
 
     -- Demand 3: on refusal the sheet's own number and place are told, and three zeros
     pub not-answered : asked s ≡ record { outcome = sheetTest s; least = 0; ours = 0; most = 0 }

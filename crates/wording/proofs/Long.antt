@@ -14,24 +14,27 @@ use Rattle.meaning.specs.declared.Verdict.{Verdict}
 use Rattle.meaning.specs.declared.Choice.{Choice}
 use Rattle.meaning.specs.declared.Choice.the-variants.{Neither, First, Second}
 use Rattle.meaning.specs.Answer.{isAccepted}
-use Rattle.meaning.specs.Lister.{text, said}
+use Rattle.meaning.specs.Lister.{text, decimal, said}
 use Rattle.lines.proofs.Decimal.{digits-most}
 use Rattle.lines.proofs.Lined.{said-length}
 use Rattle.wording.specs.Saying.{unknown, sayings, saying, refusedLine, plannedLine, verdictLine, choiceLine, choiceText}
 
 -- so many bytes at most
-record Within (bytes : List ℕ) (most : ℕ) : Type 0 where
-  short : length bytes ≤ most
+pub record Within (bytes : List ℕ) (most : ℕ) : Type 0 where
+  pub short : length bytes ≤ most
 
--- by counting; one part behind another; a word with its number
-counted : {bytes : List ℕ} {most : ℕ} → leb (length bytes) most ≡ true → Within bytes most
+-- by counting; one part behind another; a word with its number; a number alone
+pub counted : {bytes : List ℕ} {most : ℕ} → leb (length bytes) most ≡ true → Within bytes most
 counted {bytes} {most} e = record { short = leb-true (length bytes) most e }
 
-both : {xs ys : List ℕ} {a b : ℕ} → Within xs a → Within ys b → Within (xs ++ ys) (a + b)
+pub both : {xs ys : List ℕ} {a b : ℕ} → Within xs a → Within ys b → Within (xs ++ ys) (a + b)
 both {xs} {ys} h k = record { short = omega (arith, length-append xs ys, h .short, k .short) }
 
-numbered : {a : ℕ} (word : String) (n : ℕ) → Within (text word) a → Within (said word n) (a + 6)
+pub numbered : {a : ℕ} (word : String) (n : ℕ) → Within (text word) a → Within (said word n) (a + 6)
 numbered word n h = record { short = omega (arith, said-length word n, digits-most 5 n, h .short) }
+
+pub digits-long : (n : ℕ) → Within (decimal 5 n) 5
+digits-long n = record { short = digits-most 5 n }
 
 -- one of two lines
 either : (test : Bool) {xs ys : List ℕ} {a b : ℕ} → a ≤ b → Within xs a → Within ys b → Within (cond test xs ys) b

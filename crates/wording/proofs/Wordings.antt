@@ -20,7 +20,7 @@ blank-long : length blank ≡ 256
 blank-long = length-replicate {A = ℕ} 256 0
 
 -- what a function that writes an answer says of it
-abbrev Answered : List ℕ → List ℕ → List ℕ → ℕ → Type 0
+abbrev pub Answered : List ℕ → List ℕ → List ℕ → ℕ → Type 0
 Answered before text after answer = ((answer ≤ length after) × (answer ≡ length (take answer after))) × Lined before text after answer
 
 part : (after : List ℕ) (answer : ℕ) → answer ≤ length after → (answer ≤ length after) × (answer ≡ length (take answer after))

@@ -1,4 +1,4 @@
--- What the front door answers, in words: docs/NUMBERS.md, and the answers of document 01, "Numbers returned".
+-- RULES, "The answers in words": what the front door says of the answers of "Numbers returned", in the words of docs/NUMBERS.md.
 use mathlib.Core.Bool.{cond}
 use mathlib.Core.List.{List, [], _∷_, _++_}
 use Prim.Native.Nat.{ℕ, min}
@@ -8,15 +8,16 @@ use Rattle.meaning.specs.declared.Planned.{Planned}
 use Rattle.meaning.specs.declared.Verdict.{Verdict}
 use Rattle.meaning.specs.declared.Choice.{Choice}
 use Rattle.meaning.specs.declared.Choice.the-variants.{Neither, First, Second}
+use Rattle.meaning.specs.Words.{Bytes}
 use Rattle.meaning.specs.Answer.{isAccepted}
-use Rattle.meaning.specs.Lister.{text, said}
+use Rattle.meaning.specs.Lister.{text, said, refusal}
 
 -- no proved answer has such a number; it is not given another's words
-unfoldable pub unknown : List ℕ
+unfoldable pub unknown : Bytes
 unknown = text "no number of docs/NUMBERS.md"
 
 -- docs/NUMBERS.md, "in words": those of 1, 2, .. 17, behind those of 0
-unfoldable pub sayings : List (List ℕ)
+unfoldable pub sayings : List Bytes
 sayings =
     unknown
     ∷ text "the sheet ends too early"
@@ -39,33 +40,32 @@ sayings =
     ∷ []
 
 -- docs/NUMBERS.md: what a refusal's number says
-unfoldable pub saying : ℕ → List ℕ
+unfoldable pub saying : (number : ℕ) → Bytes
 saying number = getD sayings number unknown
 
 -- "Numbers returned": a refusal's number and place, and the number in plain words
-unfoldable pub refusedLine : Outcome → List ℕ
-refusedLine outcome =
-    said "refused" (outcome .number) ++ said "" (outcome .place) ++ text ": " ++ saying (outcome .number) ++ text "\n"
+unfoldable pub refusedLine : Outcome → Bytes
+refusedLine outcome = refusal outcome ++ text ": " ++ saying (outcome .number) ++ text "\n"
 
 -- "Numbers returned": what a planner answers; more bytes than 65,535, which no plan of ours has, count as 65,535
-unfoldable pub plannedLine : Planned → List ℕ
+unfoldable pub plannedLine : Planned → Bytes
 plannedLine planned =
     cond (isAccepted (planned .outcome))
     (said "planned" (planned .slots) ++ said " slots," (planned .colours) ++ said " colours," (min (planned .bytes) 65535) ++ text " bytes\n")
     (refusedLine (planned .outcome))
 
 -- "Numbers returned": what the judge answers
-unfoldable pub verdictLine : Verdict → List ℕ
+unfoldable pub verdictLine : Verdict → Bytes
 verdictLine verdict =
     cond (isAccepted (verdict .outcome)) (said "passed" (verdict .slots) ++ text " slots\n") (refusedLine (verdict .outcome))
 
 -- "Numbers returned": which of two plans the chooser hands back
-abbrev pub choiceLine : Choice → List ℕ
+abbrev pub choiceLine : Choice → Bytes
 choiceLine First = text "first\n"
 choiceLine Second = text "second\n"
 choiceLine Neither = text "neither\n"
 
 -- "Numbers returned": the choice, and the verdict on each of the two plans
-unfoldable pub choiceText : Choice → Verdict → Verdict → List ℕ
+unfoldable pub choiceText : Choice → (first second : Verdict) → Bytes
 choiceText choice first second =
     choiceLine choice ++ text "first: " ++ verdictLine first ++ text "second: " ++ verdictLine second

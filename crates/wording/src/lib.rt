@@ -1,9 +1,7 @@
 // The front door's answers in words: each public function decides every byte of one, in a lent buffer.
 ghost use mathlib.Core.Path.{_≡_};
-ghost use mathlib.Core.List.{_++_};
 ghost use Prim.Native.Nat.{_≤_, _<_, min};
 ghost use lib.ListN.{length, take};
-ghost use Rattle.meaning.specs.Lister.{decimal};
 ghost use Rattle.lines.specs.Line.{lineLength, lineIn};
 ghost use Rattle.wording.specs.Saying.{saying, refusedLine, plannedLine, verdictLine, choiceLine, choiceText};
 ghost use Rattle.wording.specs.Fits.{Fits};
@@ -14,14 +12,6 @@ use meaning::Verdict;
 
 // Room for any answer.
 pub const ANY_ANSWER: usize = 256;
-
-// Puts words and then a number at a place; says where they end.
-fn put_said(words: &[u8], n: u16, out: &mut [u8], at: usize) -> usize
-    ensures { λ r. ⌜ Fits (now (out .entry)) at (now (words .entry) ++ decimal 5 n) (now (out .exit)) r ⌝ }
-{
-    let next = lines::put_words(words, out, at);
-    lines::put_number(n, out, next)
-}
 
 // Puts what 1 to 3 say of a sheet as a whole, in the words of docs/NUMBERS.md, at a place; says where they end.
 fn put_of_sheet(number: u8, out: &mut [u8], at: usize) -> usize
@@ -128,8 +118,8 @@ fn put_refused(outcome: Outcome, out: &mut [u8], at: usize) -> usize
 {
     let number = outcome.number as u16;
     let place = outcome.place;
-    let a = put_said(b"refused ", number, out, at);
-    let b = put_said(b" ", place, out, a);
+    let a = lines::put_counted(b"refused ", number, out, at);
+    let b = lines::put_counted(b" ", place, out, a);
     let d = lines::put_words(b": ", out, b);
     let e = put_saying(outcome.number, out, d);
     lines::put_words(b"\n", out, e)
@@ -153,9 +143,9 @@ fn put_planned(planned: Planned, out: &mut [u8], at: usize) -> usize
     let slots = planned.slots;
     let colours = planned.colours as u16;
     let bytes = few(planned.bytes);
-    let a = put_said(b"planned ", slots, out, at);
-    let b = put_said(b" slots, ", colours, out, a);
-    let d = put_said(b" colours, ", bytes, out, b);
+    let a = lines::put_counted(b"planned ", slots, out, at);
+    let b = lines::put_counted(b" slots, ", colours, out, a);
+    let d = lines::put_counted(b" colours, ", bytes, out, b);
     lines::put_words(b" bytes\n", out, d)
 }
 
@@ -167,7 +157,7 @@ fn put_verdict(verdict: Verdict, out: &mut [u8], at: usize) -> usize
     if outcome.number != 0 {
         return put_refused(outcome, out, at);
     }
-    let a = put_said(b"passed ", verdict.slots, out, at);
+    let a = lines::put_counted(b"passed ", verdict.slots, out, at);
     lines::put_words(b" slots\n", out, a)
 }
 

@@ -1,10 +1,11 @@
-// The front door: plans, judges, chooses and lists by file names. The first word of an answer is fixed, so that a script can go by it.
+// The front door: answers, plans, judges, chooses and lists by file names. The first word of an answer is fixed, so that a script can go by it.
 ghost use Rattle.io.specs.Counts.{Counts};
 use libc::STDOUT_FILENO;
 use meaning::Planned;
 
 // What is asked for.
 enum Command {
+    Ask,
     List,
     ByProbe,
     ByLevel,
@@ -19,11 +20,14 @@ fn say(text: &[u8]) {
 }
 
 fn say_usage() {
-    say(b"usage: yard list SHEET              the plan by probe, as text\n");
-    say(b"       yard probe SHEET PLAN        the plan by probe, into the file PLAN\n");
-    say(b"       yard level SHEET PLAN        the plan by level, into the file PLAN\n");
-    say(b"       yard judge SHEET PLAN        whether the plan passes\n");
-    say(b"       yard choose SHEET PLAN PLAN  the shorter of two plans that pass\n");
+    say(
+        b"usage: yard ask SHEET [MILLISECONDS]  how long a reading takes; of slots of 1 to 60000 ms also in minutes\n",
+    );
+    say(b"       yard list SHEET                the plan by probe, as text\n");
+    say(b"       yard probe SHEET PLAN          the plan by probe, into the file PLAN\n");
+    say(b"       yard level SHEET PLAN          the plan by level, into the file PLAN\n");
+    say(b"       yard judge SHEET PLAN          whether the plan passes\n");
+    say(b"       yard choose SHEET PLAN PLAN    the shorter of two plans that pass\n");
 }
 
 // Says which file failed and, on standard error, why.
@@ -49,8 +53,21 @@ fn same(a: &[u8], b: &[u8]) -> bool {
     true
 }
 
+// The milliseconds of argument 3; 0 where it says no slot's length.
+fn slot_length() -> u16 {
+    let mut word = [0u8; 16];
+    let n = os::arg(3, &mut word);
+    if os::errno() != 0 {
+        return 0;
+    }
+    dealer::milliseconds(&word[..n])
+}
+
 // The command of a word, where as many words stand as it wants.
 fn command_of(word: &[u8], count: usize) -> Command {
+    if same(word, b"ask") && (count == 3 || count == 4 && slot_length() != 0) {
+        return Command::Ask;
+    }
     if count == 3 && same(word, b"list") {
         return Command::List;
     }
@@ -126,6 +143,14 @@ fn within(n: usize, buf: &[u8]) -> usize
     ensures { λ r. ⌜ Counts r (now (buf .entry)) ⌝ }
 {
     if n < buf.len() { n } else { buf.len() }
+}
+
+// Says how long a reading of the sheet takes, in minutes too where argument 3 says how long a slot is.
+fn ask(sheet: &[u8]) {
+    let told = telephone::ask(sheet);
+    let mut text = [0u8; wording::ANY_ANSWER];
+    let n = dealer::asked(&mut text, told, slot_length());
+    say(&text[..n]);
 }
 
 // Lists the sheet; a refusal is said with its meaning.
@@ -213,6 +238,7 @@ fn choose(sheet: &[u8]) {
 // What is asked for, of a sheet.
 fn answer(what: Command, sheet: &[u8]) {
     match what {
+        Command::Ask => ask(sheet),
         Command::List => list(sheet),
         Command::ByProbe => plan_by_probe(sheet),
         Command::ByLevel => plan_by_level(sheet),

@@ -1,15 +1,14 @@
 -- `chosen::write_senders` meets its contract: the first k probes have had their turn, and the senders among them stand behind the count.
-use mathlib.Core.Path.{_≡_, refl, sym, ap, _∙_, subst, subst₂}
+use mathlib.Core.Path.{_≡_, refl, ap, _∙_, subst}
 use mathlib.Core.Bool.{Bool, false}
-use mathlib.Core.List.{List, []}
-use mathlib.Core.Logic.{⊎-elim}
+use mathlib.Core.List.{[]}
 use Prim.Native.Nat.{ℕ, _+_, _-_, _<_}
 use lib.ListN.{length, getD, set, length-set}
 use Rattle.meaning.specs.Conflict.{entry}
 use Rattle.meaning.specs.Rounds.{holds, joined}
 use Rattle.laws.proofs.Turns.{length-tab}
-use Rattle.chosen.proofs.Free.{freeBy, free-start, free-says, free-pass, free-put}
-use Rattle.chosen.proofs.Writing.{Writing, writing-start, writing-pass, writing-put, written, fewer, long}
+use Rattle.chosen.proofs.Free.{freeBy, free-start, free-says, free-put, next-free}
+use Rattle.chosen.proofs.Writing.{Writing, writing-start, writing-put, written, fewer, long}
 use native.Mathlib.Omega.{arith}
 use borrow.Author.Needs.{needs}
 use Rattle.chosen.proofs.write_senders.Statement.{statement}
@@ -17,6 +16,7 @@ use Rattle.chosen.proofs.write_senders.Tie as tie
 use Rattle.chosen.proofs.write_senders.Reads as reads
 use Rattle.chosen.proofs.write_senders.Lts as lts
 use Rattle.chosen.proofs.free_to_send.Reads as free-to-send-reads
+use Rattle.chosen.proofs.next_free.Reads as next-free-reads
 use Rattle.chosen.proofs.shut.Reads as shut-reads
 
 abbrev Inv-loop : tie.InvT-loop
@@ -41,24 +41,27 @@ loop-holds c =
           (c .free-to-send .ensures),
     )
 
-add-v : tie.Need-add-v Inv-loop μ-loop
-add-v c = search needs
-
-cast-i : tie.Need-cast-i Inv-loop μ-loop
-cast-i c = search needs
-
-array-read-if1 : tie.Need-array-read-if1 Inv-loop μ-loop
-array-read-if1 c = search needs
+next-free-requires : tie.Need-next-free-requires Inv-loop μ-loop
+next-free-requires c κs = search needs
 
 add-n : tie.Need-add-n Inv-loop μ-loop
 add-n c =
-    let l = c .before .before .loop in
+    let l = c .before .before .before .before .loop in
     omega (arith, fewer _ _ _ _ (l .n) (l .k) (l .inv .0))
+
+add-rest : tie.Need-add-rest Inv-loop μ-loop
+add-rest c = search needs
 
 slice-write-rest-2 : tie.Need-slice-write-rest-2 Inv-loop μ-loop
 slice-write-rest-2 c =
-    let l = c .before .before .loop in
-    omega (arith, c .before .loop-test .taken, long _ _ _ (l .rest) _ _ (l .inv .0), l .inv .0 .room, fewer _ _ _ _ (l .n) (l .k) (l .inv .0))
+    let l = c .before .before .before .before .loop in
+    omega (arith, c .before .before .before .loop-test .taken, long _ _ _ (l .rest) _ _ (l .inv .0), l .inv .0 .room, fewer _ _ _ _ (l .n) (l .k) (l .inv .0))
+
+add-shut : tie.Need-add-shut Inv-loop μ-loop
+add-shut c = search needs
+
+cast-shut : tie.Need-cast-shut Inv-loop μ-loop
+cast-shut c = search needs
 
 mul-shut : tie.Need-mul-shut Inv-loop μ-loop
 mul-shut c = search needs
@@ -67,7 +70,7 @@ index-1-shut : tie.Need-index-1-shut Inv-loop μ-loop
 index-1-shut c = search needs
 
 shut-requires : tie.Need-shut-requires Inv-loop μ-loop
-shut-requires c κs = ap length (c .before .before .before .before .loop .inv .1) ∙ length-tab 65 _
+shut-requires c κs = ap length (c .before .before .before .before .before .before .loop .inv .1) ∙ length-tab 65 _
 
 add-k : tie.Need-add-k Inv-loop μ-loop
 add-k c = search needs
@@ -77,27 +80,32 @@ loop-less c = search needs
 
 loop-again : tie.Need-loop-again Inv-loop μ-loop
 loop-again c =
-    let start = c .before .before .before .before .before in
+    let found = c .before .before .before .before in
+    let l = found .before .before .before .loop in
+    let start = found .before .before .before .before .before .before in
     let a = start .args in
-    let l = c .before .before .loop in
-    let test : ℕ → Bool = λ v. getD (joined (a .p) (entry (a .table .now)) (holds (a .held .now)) (a .owners .now)) v false in
-    let h = c .before .loop-test .taken in
-    let small : l .k + 2 < 65 = omega (arith, start .pre .0) in
-    let sends = free-says (entry (a .table .now)) (holds (a .held .now)) (a .owners .now) (start .pre .1 .0) (l .k) small (l .free) (l .inv .1) (a .p) h in
-    ⊎-elim
-    (λ w. (
-      subst₂ (λ (r : List ℕ) (m : ℕ). Writing test (a .p) (set (a .rest .now) 0 0) r m (l .k + 1)) (sym (w .4)) (sym (w .6))
-          (writing-put test (a .p) _ (l .rest) (l .n) (l .k) (l .inv .0) h (sends ∙ w .0 .taken)),
-      w .5
-          ∙ free-put (entry (a .table .now)) (holds (a .held .now)) (a .owners .now) (start .pre .1 .0) (l .k) small (l .free) (l .inv .1) (w .0 .taken)
-          (getD (a .table .now) (l .k + 2) []) _ (λ v. refl) (w .3 .ensures),
-    ))
-    (λ w. (
-      subst₂ (λ (r : List ℕ) (m : ℕ). Writing test (a .p) (set (a .rest .now) 0 0) r m (l .k + 1)) (sym (w .1)) (sym (w .3))
-          (writing-pass test (a .p) _ (l .rest) (l .n) (l .k) (l .inv .0) h (sends ∙ w .0 .left)),
-      w .2 ∙ free-pass (entry (a .table .now)) (holds (a .held .now)) (a .owners .now) (start .pre .1 .0) (l .k) small (l .free) (l .inv .1) (w .0 .left),
-    ))
-    (c .if1 .came)
+    let next = found .next-free .ensures in
+    let k : ℕ = found .next-free .result in
+    let h : k < a .p = c .before .before .before .if1 .taken in
+    let now = next-free (entry (a .table .now)) (holds (a .held .now)) (a .owners .now) (start .pre .1 .0) (a .p) (start .pre .0) _ (l .rest) (l .free) (l .n)
+    (l .k) k next (l .inv) in
+    let small : k + 2 < 65 = omega (arith, start .pre .0) in (
+      writing-put _ (a .p) _ (l .rest) (l .n) k (now .0) h
+          (free-says (entry (a .table .now)) (holds (a .held .now)) (a .owners .now) (start .pre .1 .0) k small (l .free) (now .1) (a .p) h ∙ next .found h),
+      free-put (entry (a .table .now)) (holds (a .held .now)) (a .owners .now) (start .pre .1 .0) k small (l .free) (now .1) (next .found h)
+          (getD (a .table .now) (k + 2) []) _ (λ v. refl) (c .shut .ensures),
+    )
+
+loop-less-2 : tie.Need-loop-less-2 Inv-loop μ-loop
+loop-less-2 c = search needs
+
+loop-again-2 : tie.Need-loop-again-2 Inv-loop μ-loop
+loop-again-2 c =
+    let l = c .before .before .before .before .loop in
+    let start = c .before .before .before .before .before .before .before in
+    let a = start .args in
+    next-free (entry (a .table .now)) (holds (a .held .now)) (a .owners .now) (start .pre .1 .0) (a .p) (start .pre .0) _ (l .rest) (l .free) (l .n)
+    (l .k) _ (c .before .next-free .ensures) (l .inv)
 
 cast-rest : tie.Need-cast-rest Inv-loop μ-loop
 cast-rest c =
@@ -138,17 +146,20 @@ write-senders-spec =
     free-to-send-requires
     slice-write-rest
     loop-holds
-    add-v
-    cast-i
-    array-read-if1
+    next-free-requires
     add-n
+    add-rest
     slice-write-rest-2
+    add-shut
+    cast-shut
     mul-shut
     index-1-shut
     shut-requires
     add-k
     loop-less
     loop-again
+    loop-less-2
+    loop-again-2
     cast-rest
     slice-write-rest-3
     add-result

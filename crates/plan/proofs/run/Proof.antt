@@ -2,7 +2,7 @@
 use mathlib.Core.Path.{_≡_, sym, ap, _∙_, subst}
 use mathlib.Core.Bool.{Bool, true, false, not}
 use mathlib.Core.List.{List}
-use Prim.Native.Nat.{ℕ, _-_, _≤_}
+use Prim.Native.Nat.{ℕ, _+_, _-_, _≤_}
 use borrow.Author.Tests.{not-true, not-false}
 use lib.ListN.{length, take, drop, length-drop}
 use Rattle.meaning.specs.Words.{byNode}
@@ -79,31 +79,27 @@ round-requires c κs =
     in
     subst (λ (r : ℕ). Ready (a .p) (byNode (a .parents .now)) (l .held) r) room (l .inv .1 .ready)
 
-add-at : tie.Need-add-at Inv-loop μ-loop
-add-at c =
-    let at = c .before .before .before in
-    let loop = at .before .before .before .before .before .before .before in
+-- what a round adds ends within the buffer, and a buffer's length is a number of the machine's
+round-adds : (c : tie.After-round Inv-loop μ-loop)
+    → let loop = c .before .before .before .before .before .before .before .loop in
+    (loop .at + c .round .result .bytes ≤ 18446744073709551615) × (loop .slots + c .round .result .slots ≤ 18446744073709551615)
+round-adds c =
+    let loop = c .before .before .before .before .before .before .before in
     let start = loop .before .before in
     let a = start .args in
-    let out = still-outside (a .p) (loop .loop .held) _ (start .pre .small) (at .before .before .before .before .any-outside .ensures) (at .before .before .before .if1 .left) in
+    let out = still-outside (a .p) (loop .loop .held) _ (start .pre .small) (c .before .before .before .before .any-outside .ensures) (c .before .before .before .if1 .left) in
     let next =
     going-round (a .p) (a .parents .now) (a .table .now) (a .own .now) (a .m) (loop .loop .r) (a .held .now) _ _ _ _ _ (loop .loop .inv .1) out _ _ _ _
-    (at .round .ensures)
+    (c .round .ensures)
     in
-    omega (arith, next .within, start .good .1 .1 .1 .1 .1 .1 .1 .0 .0)
+    let most = start .good .1 .1 .1 .1 .1 .1 .1 .0 .0 in
+    (omega (arith, next .within, most), omega (arith, next .within, next .fewer, most))
+
+add-at : tie.Need-add-at Inv-loop μ-loop
+add-at c = omega (arith, round-adds (c .before .before .before) .0)
 
 add-slots : tie.Need-add-slots Inv-loop μ-loop
-add-slots c =
-    let at = c .before .before .before .before in
-    let loop = at .before .before .before .before .before .before .before in
-    let start = loop .before .before in
-    let a = start .args in
-    let out = still-outside (a .p) (loop .loop .held) _ (start .pre .small) (at .before .before .before .before .any-outside .ensures) (at .before .before .before .if1 .left) in
-    let next =
-    going-round (a .p) (a .parents .now) (a .table .now) (a .own .now) (a .m) (loop .loop .r) (a .held .now) _ _ _ _ _ (loop .loop .inv .1) out _ _ _ _
-    (at .round .ensures)
-    in
-    omega (arith, next .within, next .fewer, start .good .1 .1 .1 .1 .1 .1 .1 .0 .0)
+add-slots c = omega (arith, round-adds (c .before .before .before .before) .1)
 
 add-r : tie.Need-add-r Inv-loop μ-loop
 add-r c = search needs

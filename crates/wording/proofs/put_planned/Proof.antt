@@ -23,23 +23,23 @@ cast-colours c = search needs
 few-requires : tie.Need-few-requires
 few-requires c κs = search needs
 
-slice-aggregate-put-said : tie.Need-slice-aggregate-put-said
-slice-aggregate-put-said c = search needs
+slice-aggregate-put-counted : tie.Need-slice-aggregate-put-counted
+slice-aggregate-put-counted c = search needs
 
-put-said-requires : tie.Need-put-said-requires
-put-said-requires c κs = search needs
+put-counted-requires : tie.Need-put-counted-requires
+put-counted-requires c κs = search needs
 
-slice-aggregate-put-said-2 : tie.Need-slice-aggregate-put-said-2
-slice-aggregate-put-said-2 c = search needs
+slice-aggregate-put-counted-2 : tie.Need-slice-aggregate-put-counted-2
+slice-aggregate-put-counted-2 c = search needs
 
-put-said-requires-2 : tie.Need-put-said-requires-2
-put-said-requires-2 c κs = search needs
+put-counted-requires-2 : tie.Need-put-counted-requires-2
+put-counted-requires-2 c κs = search needs
 
-slice-aggregate-put-said-3 : tie.Need-slice-aggregate-put-said-3
-slice-aggregate-put-said-3 c = search needs
+slice-aggregate-put-counted-3 : tie.Need-slice-aggregate-put-counted-3
+slice-aggregate-put-counted-3 c = search needs
 
-put-said-requires-3 : tie.Need-put-said-requires-3
-put-said-requires-3 c κs = search needs
+put-counted-requires-3 : tie.Need-put-counted-requires-3
+put-counted-requires-3 c κs = search needs
 
 slice-aggregate-put-words : tie.Need-slice-aggregate-put-words
 slice-aggregate-put-words c = search needs
@@ -63,8 +63,8 @@ returns-2 c =
     put-same (sym (planned-line planned (test .if1 .left)))
     (put-behind
     (put-behind
-    (put-behind (slots .put-said .ensures) (colours .put-said2 .ensures))
-    (put-same (ap (said " colours,") (count .few .ensures)) (bytes .put-said3 .ensures)))
+    (put-behind (put-whole (slots .put-counted .ensures)) (put-whole (colours .put-counted2 .ensures)))
+    (put-same (ap (said " colours,") (count .few .ensures)) (put-whole (bytes .put-counted3 .ensures))))
     (put-whole (end .put-words .ensures)))
 
 pub put-planned-spec : {M : Type 1} → statement M
@@ -76,12 +76,12 @@ put-planned-spec =
     returns
     cast-colours
     few-requires
-    slice-aggregate-put-said
-    put-said-requires
-    slice-aggregate-put-said-2
-    put-said-requires-2
-    slice-aggregate-put-said-3
-    put-said-requires-3
+    slice-aggregate-put-counted
+    put-counted-requires
+    slice-aggregate-put-counted-2
+    put-counted-requires-2
+    slice-aggregate-put-counted-3
+    put-counted-requires-3
     slice-aggregate-put-words
     put-words-requires
     same-length-2

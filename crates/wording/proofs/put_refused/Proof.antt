@@ -9,17 +9,17 @@ use Rattle.wording.proofs.put_refused.Tie as tie
 cast-number : tie.Need-cast-number
 cast-number c = search needs
 
-slice-aggregate-put-said : tie.Need-slice-aggregate-put-said
-slice-aggregate-put-said c = search needs
+slice-aggregate-put-counted : tie.Need-slice-aggregate-put-counted
+slice-aggregate-put-counted c = search needs
 
-put-said-requires : tie.Need-put-said-requires
-put-said-requires c κs = search needs
+put-counted-requires : tie.Need-put-counted-requires
+put-counted-requires c κs = search needs
 
-slice-aggregate-put-said-2 : tie.Need-slice-aggregate-put-said-2
-slice-aggregate-put-said-2 c = search needs
+slice-aggregate-put-counted-2 : tie.Need-slice-aggregate-put-counted-2
+slice-aggregate-put-counted-2 c = search needs
 
-put-said-requires-2 : tie.Need-put-said-requires-2
-put-said-requires-2 c κs = search needs
+put-counted-requires-2 : tie.Need-put-counted-requires-2
+put-counted-requires-2 c κs = search needs
 
 slice-aggregate-put-words : tie.Need-slice-aggregate-put-words
 slice-aggregate-put-words c = search needs
@@ -49,7 +49,7 @@ returns c =
     let number = place .before .before .before .before .before in
     put-behind
     (put-behind
-    (put-behind (put-behind (number .put-said .ensures) (place .put-said2 .ensures)) (put-whole (colon .put-words .ensures)))
+    (put-behind (put-behind (put-whole (number .put-counted .ensures)) (put-whole (place .put-counted2 .ensures))) (put-whole (colon .put-words .ensures)))
     (words .put-saying .ensures))
     (put-whole (newline .put-words2 .ensures))
 
@@ -58,10 +58,10 @@ put-refused-spec =
     tie.close
     (tie.spec
     cast-number
-    slice-aggregate-put-said
-    put-said-requires
-    slice-aggregate-put-said-2
-    put-said-requires-2
+    slice-aggregate-put-counted
+    put-counted-requires
+    slice-aggregate-put-counted-2
+    put-counted-requires-2
     slice-aggregate-put-words
     put-words-requires
     put-saying-requires

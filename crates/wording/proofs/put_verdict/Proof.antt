@@ -17,11 +17,11 @@ returns : tie.Need-returns
 returns c =
     put-same (sym (failed-line _ (c .before .before .before .before .if1 .taken))) (c .before .before .put-refused .ensures)
 
-slice-aggregate-put-said : tie.Need-slice-aggregate-put-said
-slice-aggregate-put-said c = search needs
+slice-aggregate-put-counted : tie.Need-slice-aggregate-put-counted
+slice-aggregate-put-counted c = search needs
 
-put-said-requires : tie.Need-put-said-requires
-put-said-requires c κs = search needs
+put-counted-requires : tie.Need-put-counted-requires
+put-counted-requires c κs = search needs
 
 slice-aggregate-put-words : tie.Need-slice-aggregate-put-words
 slice-aggregate-put-words c = search needs
@@ -38,7 +38,7 @@ returns-2 c =
     let end = c .before .before in
     let slots = end .before .before .before .before .before in
     put-same (sym (passed-line (slots .before .before .before .before .before .before .before .args .verdict) (slots .before .before .before .if1 .left)))
-    (put-behind (slots .put-said .ensures) (put-whole (end .put-words .ensures)))
+    (put-behind (put-whole (slots .put-counted .ensures)) (put-whole (end .put-words .ensures)))
 
 pub put-verdict-spec : {M : Type 1} → statement M
 put-verdict-spec =
@@ -47,8 +47,8 @@ put-verdict-spec =
     put-refused-requires
     same-length
     returns
-    slice-aggregate-put-said
-    put-said-requires
+    slice-aggregate-put-counted
+    put-counted-requires
     slice-aggregate-put-words
     put-words-requires
     same-length-2

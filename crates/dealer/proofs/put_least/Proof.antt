@@ -1,0 +1,55 @@
+-- `dealer::put_least` meets its contract: its parts are put one behind the other.
+use borrow.Author.Needs.{needs}
+use Rattle.meaning.specs.Lister.{text}
+use Rattle.wording.proofs.Fitting.{put-whole, put-behind}
+use Rattle.dealer.specs.Sentences.{leastSaid}
+use Rattle.dealer.proofs.put_least.Statement.{statement}
+use Rattle.dealer.proofs.put_least.Tie as tie
+
+slice-aggregate-put-counted : tie.Need-slice-aggregate-put-counted
+slice-aggregate-put-counted c = search needs
+
+put-counted-requires : tie.Need-put-counted-requires
+put-counted-requires c κs = search needs
+
+slice-aggregate-put-words : tie.Need-slice-aggregate-put-words
+slice-aggregate-put-words c = search needs
+
+put-words-requires : tie.Need-put-words-requires
+put-words-requires c κs = search needs
+
+put-timed-requires : tie.Need-put-timed-requires
+put-timed-requires c κs = search needs
+
+slice-aggregate-put-words-2 : tie.Need-slice-aggregate-put-words-2
+slice-aggregate-put-words-2 c = search needs
+
+put-words-requires-2 : tie.Need-put-words-requires-2
+put-words-requires-2 c κs = search needs
+
+same-length : tie.Need-same-length
+same-length c = search needs
+
+returns : tie.Need-returns
+unfolding text leastSaid
+returns c =
+    let end = c .before .before in
+    let time = end .before .before .before .before .before in
+    let slots = time .before .before .before .before in
+    let number = slots .before .before .before .before .before in
+    put-behind (put-behind (put-behind (put-whole (number .put-counted .ensures)) (put-whole (slots .put-words .ensures))) (time .put-timed .ensures))
+    (put-whole (end .put-words2 .ensures))
+
+pub put-least-spec : {M : Type 1} → statement M
+put-least-spec =
+    tie.close
+    (tie.spec
+    slice-aggregate-put-counted
+    put-counted-requires
+    slice-aggregate-put-words
+    put-words-requires
+    put-timed-requires
+    slice-aggregate-put-words-2
+    put-words-requires-2
+    same-length
+    returns)

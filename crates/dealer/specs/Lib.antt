@@ -1,0 +1,2 @@
+pub mod SlotLength
+pub mod Sentences

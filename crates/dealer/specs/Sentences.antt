@@ -1,0 +1,38 @@
+-- What is said on the telephone: three sentences, each with its slots and, where a slot's length is known, with its minutes and seconds.
+use mathlib.Core.Bool.{cond}
+use mathlib.Core.List.{[], _++_}
+use Prim.Native.Nat.{ℕ, _/_, _%_}
+use lib.Dec.{eqb}
+use Rattle.meaning.specs.declared.Told.{Told}
+use Rattle.meaning.specs.Words.{Bytes}
+use Rattle.meaning.specs.Answer.{isAccepted}
+use Rattle.meaning.specs.Lister.{text, decimal, said}
+use Rattle.wording.specs.Saying.{refusedLine}
+use Rattle.dealer.specs.SlotLength.{down, up, secondsOf}
+
+-- seconds, as minutes and seconds in brackets
+abbrev pub minutes : (seconds : ℕ) → Bytes
+minutes seconds = text " (" ++ decimal 5 (seconds / 60) ++ said " min" (seconds % 60) ++ text " s)"
+
+-- how long so many slots take; nothing where a slot's length is not known
+unfoldable pub timed : (slots ms rounding : ℕ) → Bytes
+timed slots ms rounding = cond (eqb ms 0) [] (minutes (secondsOf slots ms rounding))
+
+-- no plan takes fewer slots: the time is rounded down
+unfoldable pub leastSaid : (slots ms : ℕ) → Bytes
+leastSaid slots ms = said "One reading takes at least" slots ++ text " slots" ++ timed slots ms down ++ text ", whoever plans it."
+
+-- our plan by probe: the time is rounded up
+unfoldable pub oursSaid : (slots ms : ℕ) → Bytes
+oursSaid slots ms = said " Our plan takes" slots ++ timed slots ms up ++ text "."
+
+-- our plan never takes more: the time is rounded up
+unfoldable pub mostSaid : (slots ms : ℕ) → Bytes
+mostSaid slots ms = said " It never takes more than" slots ++ timed slots ms up ++ text ".\n"
+
+abbrev pub sentences : Told → (ms : ℕ) → Bytes
+sentences told ms = leastSaid (told .least) ms ++ oursSaid (told .ours) ms ++ mostSaid (told .most) ms
+
+-- the sentences, or the line of a refusal
+unfoldable pub askedText : Told → (ms : ℕ) → Bytes
+askedText told ms = cond (isAccepted (told .outcome)) (sentences told ms) (refusedLine (told .outcome))

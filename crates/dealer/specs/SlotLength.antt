@@ -1,0 +1,38 @@
+-- How long a slot is, as a word says it, and how long so many slots take.
+use mathlib.Core.Bool.{Bool, false, cond, not, _&&_, _||_}
+use mathlib.Core.List.{[], _∷_}
+use Prim.Native.Nat.{ℕ, _+_, _-_, _*_, _/_, min}
+use lib.Dec.{leb, ltb}
+use Rattle.meaning.specs.Words.{Bytes}
+
+-- a slot is at most a minute long, in milliseconds
+abbrev pub longestSlot : ℕ
+longestSlot = 60000
+
+-- 0 to 9
+abbrev pub isDigit : (byte : ℕ) → Bool
+isDigit byte = leb 48 byte && leb byte 57
+
+-- whether any byte of a word is no digit
+unfoldable pub othersStand : (word : Bytes) → Bool
+othersStand [] = false
+othersStand (byte ∷ rest) = not (isDigit byte) || othersStand rest
+
+-- the number that digits say behind the number before them
+unfoldable pub digitsSay : (before : ℕ) → (digits : Bytes) → ℕ
+digitsSay before [] = before
+digitsSay before (digit ∷ rest) = digitsSay (10 * before + (digit - 48)) rest
+
+-- the milliseconds that a word says, 1 to 60,000; 0 where it says anything else
+unfoldable pub millisecondsSaid : (word : Bytes) → ℕ
+millisecondsSaid word = cond (othersStand word || ltb longestSlot (digitsSay 0 word)) 0 (digitsSay 0 word)
+
+-- the seconds that so many slots take, rounded down or up; a slot of more than a minute counts as a minute
+abbrev pub down : ℕ
+down = 0
+
+abbrev pub up : ℕ
+up = 999
+
+unfoldable pub secondsOf : (slots ms rounding : ℕ) → ℕ
+secondsOf slots ms rounding = (slots * min ms longestSlot + rounding) / 1000

@@ -1,0 +1,131 @@
+// The telephone in the dealer's words: how long a slot is, and the three sentences about a sheet.
+ghost use mathlib.Core.Path.{_≡_};
+ghost use Prim.Native.Nat.{_+_, _-_, _*_, _≤_, min};
+ghost use lib.ListN.{length, take};
+ghost use Rattle.lines.specs.Line.{lineLength, lineIn};
+ghost use Rattle.wording.specs.Fits.{Fits};
+ghost use Rattle.dealer.specs.SlotLength.{longestSlot, isDigit, millisecondsSaid, secondsOf};
+ghost use Rattle.dealer.specs.Sentences.{timed, leastSaid, oursSaid, mostSaid, sentences, askedText};
+use meaning::Told;
+
+// A slot is at most a minute long, in milliseconds.
+const LONGEST_SLOT: u16 = 60000;
+
+fn is_digit(byte: u8) -> bool
+    ensures { λ r. ⌜ r ≡ isDigit byte ⌝ }
+{
+    (48 <= byte) & (byte <= 57)
+}
+
+// The number that a digit makes behind the number before it.
+fn with_digit(before: u16, digit: u8) -> u32
+    requires { ⌜ 48 ≤ digit ⌝ }
+    ensures { λ r. ⌜ r ≡ 10 * before + (digit - 48) ⌝ }
+{
+    10 * before as u32 + (digit - 48) as u32
+}
+
+// The milliseconds that a word says, 1 to 60,000; 0 where it says anything else.
+pub fn milliseconds(word: &[u8]) -> u16
+    ensures { λ r. ⌜ r ≡ millisecondsSaid (now (word .entry)) ⌝ }
+{
+    let mut before: u16 = 0;
+    let mut i = 0;
+    while i < word.len() {
+        let byte = word[i];
+        if !is_digit(byte) {
+            return 0;
+        }
+        let more = with_digit(before, byte);
+        if (LONGEST_SLOT as u32) < more {
+            return 0;
+        }
+        before = more as u16;
+        i += 1;
+    }
+    before
+}
+
+fn at_most_a_minute(ms: u16) -> u16
+    ensures { λ r. ⌜ r ≡ min ms longestSlot ⌝ }
+{
+    if ms < LONGEST_SLOT { ms } else { LONGEST_SLOT }
+}
+
+// The seconds that so many slots take, rounded down by 0 and up by 999.
+fn seconds(slots: u16, ms: u16, rounding: u16) -> u32
+    requires { ⌜ rounding ≤ 999 ⌝ }
+    ensures count { λ r. ⌜ r ≡ secondsOf slots ms rounding ⌝ }
+    ensures few { λ r. ⌜ r ≤ 3932100 ⌝ }
+{
+    let slot = at_most_a_minute(ms);
+    (slots as u32 * slot as u32 + rounding as u32) / 1000
+}
+
+// Puts how long so many slots take at a place, and nothing where a slot's length is not known; says where it ends.
+fn put_timed(slots: u16, ms: u16, rounding: u16, out: &mut [u8], at: usize) -> usize
+    requires { ⌜ rounding ≤ 999 ⌝ }
+    ensures { λ r. ⌜ Fits (now (out .entry)) at (timed slots ms rounding) (now (out .exit)) r ⌝ }
+{
+    if ms == 0 {
+        return at;
+    }
+    let all = seconds(slots, ms, rounding);
+    let minutes = (all / 60) as u16;
+    let rest = (all % 60) as u16;
+    let a = lines::put_counted(b" (", minutes, out, at);
+    let b = lines::put_counted(b" min ", rest, out, a);
+    lines::put_words(b" s)", out, b)
+}
+
+// Puts the sentence about any plan at a place; says where it ends.
+fn put_least(slots: u16, ms: u16, out: &mut [u8], at: usize) -> usize
+    ensures { λ r. ⌜ Fits (now (out .entry)) at (leastSaid slots ms) (now (out .exit)) r ⌝ }
+{
+    let a = lines::put_counted(b"One reading takes at least ", slots, out, at);
+    let b = lines::put_words(b" slots", out, a);
+    let d = put_timed(slots, ms, 0, out, b);
+    lines::put_words(b", whoever plans it.", out, d)
+}
+
+// The same of our plan.
+fn put_ours(slots: u16, ms: u16, out: &mut [u8], at: usize) -> usize
+    ensures { λ r. ⌜ Fits (now (out .entry)) at (oursSaid slots ms) (now (out .exit)) r ⌝ }
+{
+    let a = lines::put_counted(b" Our plan takes ", slots, out, at);
+    let b = put_timed(slots, ms, 999, out, a);
+    lines::put_words(b".", out, b)
+}
+
+// The same of its worst case.
+fn put_most(slots: u16, ms: u16, out: &mut [u8], at: usize) -> usize
+    ensures { λ r. ⌜ Fits (now (out .entry)) at (mostSaid slots ms) (now (out .exit)) r ⌝ }
+{
+    let a = lines::put_counted(b" It never takes more than ", slots, out, at);
+    let end = put_timed(slots, ms, 999, out, a);
+    lines::put_words(b".\n", out, end)
+}
+
+// Puts the three sentences at a place; says where they end.
+fn put_sentences(told: Told, ms: u16, out: &mut [u8], at: usize) -> usize
+    ensures { λ r. ⌜ Fits (now (out .entry)) at (sentences told ms) (now (out .exit)) r ⌝ }
+{
+    let a = put_least(told.least, ms, out, at);
+    let b = put_ours(told.ours, ms, out, a);
+    put_most(told.most, ms, out, b)
+}
+
+// What is said of a sheet, at the start of a lent buffer, in minutes too where ms is not 0; says how many bytes it has, 0 and nothing written where they do not fit.
+pub fn asked(out: &mut [u8], told: Told, ms: u16) -> usize
+    ensures part { λ r. ⌜ (r ≤ length (now (out .exit))) × (r ≡ length (take r (now (out .exit)))) ⌝ }
+    ensures answer { λ r. ⌜ r ≡ lineLength (now (out .entry)) (askedText told ms) ⌝ }
+    ensures buffer { λ _. ⌜ now (out .exit) ≡ lineIn (now (out .entry)) (askedText told ms) ⌝ }
+{
+    let outcome = told.outcome;
+    if outcome.number != 0 {
+        return wording::refused(out, outcome);
+    }
+    let mut line = [0u8; wording::ANY_ANSWER];
+    let n = put_sentences(told, ms, &mut line, 0);
+    lines::put_words(&line[..n], out, 0)
+}
