@@ -8,11 +8,17 @@
 // - a pointer that is valid for the length given with it, and not null even where the length is 0;
 // - a buffer to be written that overlaps none of the other arguments;
 // - YARD_STACK bytes of stack, and YARD_LIST_STACK for yard_list and yard_ask.
+//
+// The library, libgateway.a, is for x86-64 and wants memcpy and memset of its surroundings and nothing else: no operating system, no allocation.
 #ifndef YARD_H
 #define YARD_H
 
 #include <stddef.h>
 #include <stdint.h>
+
+#ifdef __cplusplus
+extern "C" {
+#endif
 
 enum {
   YARD_SHEET_BYTES = 4162,      // how much of a sheet decides every answer: one byte more than the longest has
@@ -71,5 +77,9 @@ uint8_t yard_choose(const uint8_t *sheet, size_t sheet_length, const uint8_t *fi
 // Lists a sheet: the plan by probe as text, or the line `refused N P`. The caller provides YARD_TEXT_BYTES for the text, whatever the sheet, and gets
 // the text's length; the bytes behind it stay, and no zero byte ends it. A shorter buffer is left as it was, and the answer is 0, which no text's length is.
 size_t yard_list(const uint8_t *sheet, size_t sheet_length, uint8_t *text, size_t text_length);
+
+#ifdef __cplusplus
+}
+#endif
 
 #endif

@@ -1,7 +1,26 @@
 // The front door: answers, plans, judges, chooses and lists by file names. The first word of an answer is fixed, so that a script can go by it.
-ghost use Rattle.io.specs.Counts.{Counts};
+mod files;
+mod words;
+
+use libc::STDERR_FILENO;
 use libc::STDOUT_FILENO;
+use meaning::Choice;
 use meaning::Planned;
+use words::ANSWERED;
+use words::FAILED;
+use words::REFUSED;
+use words::within;
+
+// The arguments; in front of them stands what the starting script knows of an output (`files`).
+const COMMAND: usize = 2;
+
+const SHEET: usize = 3;
+
+const PLAN: usize = 4;
+
+const SECOND: usize = 5;
+
+const OUT: usize = 6;
 
 // What is asked for.
 enum Command {
@@ -11,31 +30,9 @@ enum Command {
     ByLevel,
     Judge,
     Choose,
+    Help,
+    Version,
     Unknown,
-}
-
-// Writes to standard output.
-fn say(text: &[u8]) {
-    io::write_all(STDOUT_FILENO, text);
-}
-
-fn say_usage() {
-    say(
-        b"usage: yard ask SHEET [MILLISECONDS]  how long a reading takes; of slots of 1 to 60000 ms also in minutes\n",
-    );
-    say(b"       yard list SHEET                the plan by probe, as text\n");
-    say(b"       yard probe SHEET PLAN          the plan by probe, into the file PLAN\n");
-    say(b"       yard level SHEET PLAN          the plan by level, into the file PLAN\n");
-    say(b"       yard judge SHEET PLAN          whether the plan passes\n");
-    say(b"       yard choose SHEET PLAN PLAN    the shorter of two plans that pass\n");
-}
-
-// Says which file failed and, on standard error, why.
-fn say_failed(word: &[u8], path: &[u8]) {
-    os::fail(path);
-    say(word);
-    say(path);
-    say(b"\n");
 }
 
 // Whether two words are the same.
@@ -53,214 +50,232 @@ fn same(a: &[u8], b: &[u8]) -> bool {
     true
 }
 
-// The milliseconds of argument 3; 0 where it says no slot's length.
+// The milliseconds behind the sheet; 0 where it says no slot's length.
 fn slot_length() -> u16 {
     let mut word = [0u8; 16];
-    let n = os::arg(3, &mut word);
+    let n = os::arg(PLAN, &mut word);
     if os::errno() != 0 {
         return 0;
     }
     dealer::milliseconds(&word[..n])
 }
 
-// The command of a word, where as many words stand as it wants.
-fn command_of(word: &[u8], count: usize) -> Command {
-    if same(word, b"ask") && (count == 3 || count == 4 && slot_length() != 0) {
-        return Command::Ask;
-    }
-    if count == 3 && same(word, b"list") {
-        return Command::List;
-    }
-    if count == 4 && same(word, b"probe") {
+// The command of a word that takes a plan, where as many words stand as it wants.
+fn plan_command_of(word: &[u8], count: usize) -> Command {
+    if count == 5 && same(word, b"probe") {
         return Command::ByProbe;
     }
-    if count == 4 && same(word, b"level") {
+    if count == 5 && same(word, b"level") {
         return Command::ByLevel;
     }
-    if count == 4 && same(word, b"judge") {
+    if count == 5 && same(word, b"judge") {
         return Command::Judge;
     }
-    if count == 5 && same(word, b"choose") {
+    if (count == 6 || count == 7) && same(word, b"choose") {
         return Command::Choose;
     }
     Command::Unknown
 }
 
-// Whether a file was read to its end, or as far as it can matter.
-fn is_read(fd: i32, is_full: bool) -> bool {
-    if is_full {
-        return true;
+// The command of a word, where as many words stand as it wants.
+fn command_of(word: &[u8], count: usize) -> Command {
+    if same(word, b"ask") && (count == 4 || count == 5 && slot_length() != 0) {
+        return Command::Ask;
     }
-    let mut more = [0u8; 1];
-    libc::read(fd, &mut more) == 0
+    if count == 4 && same(word, b"list") {
+        return Command::List;
+    }
+    if count == 3 && same(word, b"--help") {
+        return Command::Help;
+    }
+    if count == 3 && same(word, b"--version") {
+        return Command::Version;
+    }
+    plan_command_of(word, count)
 }
 
-// Reads the file that argument i names into buf; answers how many bytes, or -1 after saying that it cannot be read.
-fn read_file(i: usize, buf: &mut [u8]) -> isize {
-    let mut path = io::buffer();
-    let n = os::arg(i, &mut path);
-    if os::errno() != 0 {
-        say_failed(b"unreadable ", b"a name that is too long");
-        return -1;
-    }
-    let fd = os::open_read(&path[..n]);
-    if fd < 0 {
-        say_failed(b"unreadable ", &path[..n]);
-        return -1;
-    }
-    let got = io::read_full(fd, buf);
-    let is_all = is_read(fd, got == buf.len());
-    if !is_all {
-        say_failed(b"unreadable ", &path[..n]);
-    }
-    libc::close(fd);
-    if is_all { got as isize } else { -1 }
-}
-
-// Writes a plan to the file that argument i names; answers whether it could, after saying so where not.
-fn write_file(i: usize, plan: &[u8]) -> bool {
-    let mut path = io::buffer();
-    let n = os::arg(i, &mut path);
-    if os::errno() != 0 {
-        say_failed(b"unwritable ", b"a name that is too long");
-        return false;
-    }
-    let fd = os::open_overwrite(&path[..n]);
-    if fd < 0 {
-        say_failed(b"unwritable ", &path[..n]);
-        return false;
-    }
-    let is_written = io::write_all(fd, plan);
-    if !is_written {
-        say_failed(b"unwritable ", &path[..n]);
-    }
-    libc::close(fd);
-    is_written
-}
-
-// As many bytes as were answered; never more than buf has, which the answers' contracts give as well.
-fn within(n: usize, buf: &[u8]) -> usize
-    ensures { λ r. ⌜ Counts r (now (buf .entry)) ⌝ }
-{
-    if n < buf.len() { n } else { buf.len() }
-}
-
-// Says how long a reading of the sheet takes, in minutes too where argument 3 says how long a slot is.
-fn ask(sheet: &[u8]) {
+// Says how long a reading of the sheet takes, in minutes too where it is said how long a slot is.
+fn ask(sheet: &[u8]) -> u8 {
     let told = telephone::ask(sheet);
+    let outcome = told.outcome;
     let mut text = [0u8; wording::ANY_ANSWER];
     let n = dealer::asked(&mut text, told, slot_length());
-    say(&text[..n]);
+    words::say_answer(STDOUT_FILENO, &text[..n], outcome)
 }
 
 // Lists the sheet; a refusal is said with its meaning.
-fn list(sheet: &[u8]) {
+fn list(sheet: &[u8]) -> u8 {
     let tree = sheet::read(sheet);
     let outcome = tree.outcome;
     if outcome.number != 0 {
         let mut line = [0u8; wording::ANY_ANSWER];
         let n = wording::refused(&mut line, outcome);
-        say(&line[..n]);
-        return;
+        return words::say_answer(STDOUT_FILENO, &line[..n], outcome);
     }
     let mut text = [0u8; meaning::ANY_TEXT];
     let n = listing::list(sheet, &mut text);
-    say(&text[..n]);
+    words::say_answer(STDOUT_FILENO, &text[..n], outcome)
 }
 
-// Writes the plan that was made to the file of argument 3, and says what it has; a refusal leaves the file alone.
-fn write_plan(planned: Planned, plan: &[u8]) {
+// Writes the plan that was made to its file, and says what it has; a refusal leaves the file alone.
+fn write_plan(to: i32, planned: Planned, plan: &[u8]) -> u8 {
     let outcome = planned.outcome;
     if outcome.number == 0 {
         let n = within(planned.bytes, plan);
-        if !write_file(3, &plan[..n]) {
-            return;
+        if !files::write_file(to, PLAN, &plan[..n]) {
+            return FAILED;
         }
     }
     let mut line = [0u8; wording::ANY_ANSWER];
     let m = wording::planned(&mut line, planned);
-    say(&line[..m]);
+    words::say_answer(to, &line[..m], outcome)
 }
 
-fn plan_by_probe(sheet: &[u8]) {
+fn plan_by_probe(to: i32, sheet: &[u8]) -> u8 {
     let mut plan = [0u8; meaning::ANY_PLAN];
     let planned = plan::by_probe(sheet, &mut plan);
-    write_plan(planned, &plan);
+    write_plan(to, planned, &plan)
 }
 
-fn plan_by_level(sheet: &[u8]) {
+fn plan_by_level(to: i32, sheet: &[u8]) -> u8 {
     let mut plan = [0u8; meaning::ANY_PLAN];
     let planned = plan::by_level(sheet, &mut plan);
-    write_plan(planned, &plan);
+    write_plan(to, planned, &plan)
 }
 
-// Judges the plan in the file of argument 3; its first 96,032 bytes decide every verdict.
-fn judge(sheet: &[u8]) {
+// Judges the plan in a file; its first 96,032 bytes decide every verdict.
+fn judge(sheet: &[u8]) -> u8 {
     let mut plan = [0u8; meaning::DECIDING_PLAN];
-    let got = read_file(3, &mut plan);
+    let got = files::read_file(STDOUT_FILENO, PLAN, &mut plan);
     if got < 0 {
-        return;
+        return FAILED;
     }
     let n = io::count(got, &plan);
     let verdict = judge::judge(sheet, &plan[..n]);
+    let outcome = verdict.outcome;
     let mut line = [0u8; wording::ANY_ANSWER];
     let m = wording::verdict(&mut line, verdict);
-    say(&line[..m]);
+    words::say_answer(STDOUT_FILENO, &line[..m], outcome)
 }
 
 // Says which of two plans was chosen, and the verdict on each.
-fn say_choice(sheet: &[u8], first: &[u8], second: &[u8]) {
-    let choice = chooser::choice(sheet, first, second);
+fn say_choice(to: i32, sheet: &[u8], first: &[u8], second: &[u8], choice: Choice) -> u8 {
     let on_first = judge::judge(sheet, first);
     let on_second = judge::judge(sheet, second);
+    let status = if let Choice::Neither = choice {
+        REFUSED
+    } else {
+        ANSWERED
+    };
     let mut text = [0u8; wording::ANY_ANSWER];
     let n = wording::chosen(&mut text, choice, on_first, on_second);
-    say(&text[..n]);
+    words::say(to, &text[..n], status)
 }
 
-// Chooses between the plans in the files of arguments 3 and 4.
-fn choose(sheet: &[u8]) {
+// Writes the plan that is handed back to a file, where one is named and a plan passes.
+fn keep_choice<'a>(to: i32, sheet: &[u8], first: &'a [u8], second: &'a [u8]) -> u8 {
+    let choice = chooser::choice(sheet, first, second);
+    if let Choice::Neither = choice {
+        return say_choice(to, sheet, first, second, choice);
+    }
+    if os::arg_count() == 7 {
+        let kept = chooser::choose(sheet, first, second);
+        if !files::write_file(to, OUT, kept) {
+            return FAILED;
+        }
+    }
+    say_choice(to, sheet, first, second, choice)
+}
+
+// Chooses between the plans in two files.
+fn choose(to: i32, sheet: &[u8]) -> u8 {
     let mut first = [0u8; meaning::DECIDING_PLAN];
-    let got = read_file(3, &mut first);
+    let got = files::read_file(to, PLAN, &mut first);
     if got < 0 {
-        return;
+        return FAILED;
     }
     let n = io::count(got, &first);
     let mut second = [0u8; meaning::DECIDING_PLAN];
-    let more = read_file(4, &mut second);
+    let more = files::read_file(to, SECOND, &mut second);
     if more < 0 {
-        return;
+        return FAILED;
     }
     let m = io::count(more, &second);
-    say_choice(sheet, &first[..n], &second[..m]);
+    keep_choice(to, sheet, &first[..n], &second[..m])
 }
 
-// What is asked for, of a sheet.
-fn answer(what: Command, sheet: &[u8]) {
+// Where the words go: to standard error where a plan goes to standard output.
+fn words_to(what: Command) -> i32 {
+    let is_plan = match what {
+        Command::ByProbe => files::is_dash_argument(PLAN),
+        Command::ByLevel => files::is_dash_argument(PLAN),
+        Command::Choose => files::is_dash_argument(OUT),
+        _ => false,
+    };
+    if is_plan {
+        STDERR_FILENO
+    } else {
+        STDOUT_FILENO
+    }
+}
+
+// Whether more than one file is to be standard input or output.
+fn is_dash_twice() -> bool {
+    let count = os::arg_count();
+    let mut is_once = false;
+    let mut i = SHEET;
+    while i < count {
+        if files::is_dash_argument(i) {
+            if is_once {
+                return true;
+            }
+            is_once = true;
+        }
+        i += 1;
+    }
+    false
+}
+
+// What is asked for, of the sheet in its file.
+fn answer(what: Command) -> u8 {
+    let to = words_to(what);
+    let mut bytes = [0u8; meaning::DECIDING_SHEET];
+    let got = files::read_file(to, SHEET, &mut bytes);
+    if got < 0 {
+        return FAILED;
+    }
+    let n = io::count(got, &bytes);
+    let sheet = &bytes[..n];
     match what {
         Command::Ask => ask(sheet),
         Command::List => list(sheet),
-        Command::ByProbe => plan_by_probe(sheet),
-        Command::ByLevel => plan_by_level(sheet),
+        Command::ByProbe => plan_by_probe(to, sheet),
+        Command::ByLevel => plan_by_level(to, sheet),
         Command::Judge => judge(sheet),
-        Command::Choose => choose(sheet),
-        Command::Unknown => say_usage(),
+        Command::Choose => choose(to, sheet),
+        _ => FAILED,
+    }
+}
+
+// The exit status of what is asked for.
+fn run() -> u8 {
+    let mut word = [0u8; 16];
+    let n = os::arg(COMMAND, &mut word);
+    let what = command_of(&word[..n], os::arg_count());
+    match what {
+        Command::Help => words::say_usage(STDOUT_FILENO, ANSWERED),
+        Command::Version => words::say(STDOUT_FILENO, b"yard 1.0\n", ANSWERED),
+        Command::Unknown => words::say_usage(STDERR_FILENO, FAILED),
+        _ => {
+            if is_dash_twice() {
+                return words::say_usage(STDERR_FILENO, FAILED);
+            }
+            answer(what)
+        }
     }
 }
 
 fn main() {
-    let mut word = [0u8; 16];
-    let n = os::arg(1, &mut word);
-    let what = command_of(&word[..n], os::arg_count());
-    if let Command::Unknown = what {
-        say_usage();
-        return;
-    }
-    let mut sheet = [0u8; meaning::DECIDING_SHEET];
-    let got = read_file(2, &mut sheet);
-    if got < 0 {
-        return;
-    }
-    let m = io::count(got, &sheet);
-    answer(what, &sheet[..m]);
+    let status = run();
+    words::tell(status);
 }

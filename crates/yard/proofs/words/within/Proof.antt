@@ -2,8 +2,8 @@
 use mathlib.Core.Path.{sym}
 use lib.Seq.{length-take-le}
 use native.Mathlib.Omega.{arith}
-use Rattle.yard.proofs.within.Statement.{statement}
-use Rattle.yard.proofs.within.Tie as tie
+use Rattle.yard.proofs.words.within.Statement.{statement}
+use Rattle.yard.proofs.words.within.Tie as tie
 
 returns : tie.Need-returns
 returns c = (omega arith, sym (length-take-le _ _ (omega arith)))
