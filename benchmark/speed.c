@@ -1,4 +1,4 @@
-// Plans and judgements a second of the proved library and of the second reading (tests/independent/second.c), on four yards: the longest sheet, sixty probes at random, a star, and yard A of docs/RULES.md.
+// Plans and judgements a second of the proved library and of the second reading (tests/independent/second.c), on five yards: the longest sheet, sixty probes at random, a star, yard A of docs/RULES.md, and sixty at random with relays.
 // Both answer the same calls turn by turn in one run, and first their answers are compared. Each buffer is cleared before a plan is made, outside the
 // time. speed [TURNS]
 #include "second.h"
@@ -7,7 +7,7 @@
 #include <string.h>
 #include <time.h>
 
-enum { MOST = 1001 };
+enum { MOST = 1001, ANY = 0, RELAYS = -1 };
 
 static int turns = 21;
 
@@ -29,14 +29,14 @@ static uint32_t rnd(uint32_t below) {
   return (uint32_t)((state >> 33) % below);
 }
 
-// A yard of p probes: parent(v) by shape, packets (0: 1 to 15 at random), a pair with chance 1 in `among` (0: none).
+// A yard of p probes: parent(v) by shape; packets (ANY: 1 to 15 at random; RELAYS: the same, but every third probe has none); a pair with chance 1 in `among` (0: none).
 static void yard(int p, int shape, int packets, uint32_t among) {
   size_t at = 0, count;
   int q = 0;
   sheet[at++] = (uint8_t)p;
   for (int v = 2; v <= p + 1; v++) {
     sheet[at++] = (uint8_t)(shape == 0 ? v - 1 : shape == 1 ? 1 : 1 + (int)rnd((uint32_t)v - 1));
-    sheet[at++] = (uint8_t)(packets ? packets : 1 + (int)rnd(15));
+    sheet[at++] = (uint8_t)(packets > 0 ? packets : packets == RELAYS && v % 3 == 0 ? 0 : 1 + (int)rnd(15));
   }
   count = at, at += 2;
   for (int a = 1; a <= p + 1; a++)
@@ -111,8 +111,9 @@ int main(int argc, char **argv) {
   if (turns < 1 || turns > MOST) return printf("usage: speed [TURNS], 1 to %d\n", MOST), 2;
   printf("%-12s %-9s %10s %10s   %s\n", "yard", "work", "ours / s", "C / s", "our time / C's time: median (80% of the turns)");
   yard(63, 0, 15, 1), all("longest");
-  yard(60, 2, 0, 60), all("sixty");
+  yard(60, 2, ANY, 60), all("sixty");
   yard(63, 1, 15, 0), all("star");
   memcpy(sheet, A, sizeof A), length = sizeof A, all("A");
+  yard(60, 2, RELAYS, 60), all("relays");
   return 0;
 }

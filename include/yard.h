@@ -2,6 +2,7 @@
 //
 // Every function takes any bytes: the caller tests nothing first, nothing is kept between calls, and nothing is allocated. Every answer is a plan, a
 // verdict or a numbered refusal; docs/NUMBERS.md has the numbers in plain words, docs/CONTRACTS.md says exactly what each function answers.
+// A probe of a sheet has 0 to 15 packets (number 5 is given above 15); one with 0 is a relay, which only passes on.
 // A caller need not read more of a file than YARD_SHEET_BYTES of a sheet and YARD_JUDGED_BYTES of a plan: more changes no answer.
 //
 // What the caller must provide, each time:

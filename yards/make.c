@@ -69,6 +69,14 @@ static Yard down_the_aisles(void) {
   return y;
 }
 
+// The same with a bare relay at every third stack of each aisle, from the first on; the last stack of an aisle has none behind it and keeps its packets.
+static Yard relays_in_the_aisles(void) {
+  Yard y = down_the_aisles();
+  for (int row = 0; row < ROWS - 1; row += 3)
+    for (int aisle = 0; aisle < AISLES; aisle++) y.packets[at(aisle, row)] = 0;
+  return y;
+}
+
 // One string through all stacks: down one aisle, up the next.
 static Yard one_string(void) {
   Yard y = sixty();
@@ -86,9 +94,9 @@ int main(int argc, char **argv) {
   if (argc != 2) return printf("usage: make FOLDER\n"), 2;
   folder = argv[1];
   save("document", document, sizeof document), save("empty", none, sizeof none), save("damaged", damaged, sizeof damaged);
-  Yard good = down_the_aisles(), bad = one_string(), chain = line(63, 2, 1), star = line(63, 2, 0), longest = line(63, 1, 1);
+  Yard good = down_the_aisles(), bad = one_string(), relays = relays_in_the_aisles(), chain = line(63, 2, 1), star = line(63, 2, 0), longest = line(63, 1, 1);
   memset(longest.pair, 1, sizeof longest.pair);
-  write_yard("sixty", &good), write_yard("sixty-in-one-string", &bad);
+  write_yard("sixty", &good), write_yard("sixty-in-one-string", &bad), write_yard("relays", &relays);
   write_yard("chain", &chain), write_yard("star", &star), write_yard("longest", &longest);
   return 0;
 }

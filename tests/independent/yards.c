@@ -10,7 +10,7 @@ enum { NODES = 65, MOST_SHEET = 5000, MOST_PLAN = 300000, FILL = 0xee, ENOUGH = 
 
 static unsigned char sheet[MOST_SHEET], got[YARD_TEXT_BYTES + 8], want[YARD_TEXT_BYTES + 8], plan[2][MOST_PLAN], own[YARD_PLAN_BYTES];
 static unsigned char sheet_lent[MOST_SHEET], plan_lent[2][MOST_PLAN];
-static long sheets, yards, plannings, plans, listings, asked, numbers[18];
+static long sheets, yards, relayed, plannings, plans, listings, asked, numbers[18];
 
 // ---- chance
 
@@ -108,9 +108,19 @@ static void compare_listing(size_t len, size_t room) {
 
 // ---- random and damaged sheets
 
+// The packets of a probe, by the kind of yard: each second probe a relay, three of four, all, all but the last that is hung, which has none below it; else no relay.
+enum { SECOND, THREE_OF_FOUR, ALL, LONE, NONE };
+
+static int packets_of(int kind, int is_last, int most) {
+  if (kind == ALL || (kind == LONE && !is_last) || (kind == SECOND && rnd(2)) || (kind == THREE_OF_FOUR && rnd(4))) return 0;
+  return kind == LONE && rnd(2) ? 1 : 1 + (int)rnd((uint32_t)most);
+}
+
 static size_t random_sheet(unsigned char *s) {
   static const int sizes[] = {0, 1, 2, 3, 5, 8, 13, 21, 34, 63};
   int p = rnd(3) ? (int)rnd(12) : sizes[rnd(10)], n = p + 1, shape = (int)rnd(4), order[NODES], parent[NODES];
+  int kind = rnd(5) < 3 ? NONE : (int)rnd(4);
+  if (kind == LONE && rnd(2)) shape = 0;
   for (int k = 0; k < p; k++) {
     int j = (int)rnd((uint32_t)k + 1);
     order[k] = order[j], order[j] = k + 2;
@@ -122,7 +132,7 @@ static size_t random_sheet(unsigned char *s) {
   size_t at = 0;
   int most = rnd(2) ? 15 : 1 + (int)rnd(3);
   s[at++] = (unsigned char)p;
-  for (int v = 2; v <= n; v++) s[at++] = (unsigned char)parent[v], s[at++] = (unsigned char)(1 + rnd((uint32_t)most));
+  for (int v = 2; v <= n; v++) s[at++] = (unsigned char)parent[v], s[at++] = (unsigned char)packets_of(kind, v == order[p - 1], most);
   size_t count = at;
   at += 2;
   uint32_t among = rnd(4) == 0 ? 1 : rnd(3) == 0 ? 3 : 1 + (uint32_t)n * 2;
@@ -158,6 +168,11 @@ static void ring(unsigned char *s) {
   if (v != first) s[2 * v - 3] = (unsigned char)first;
 }
 
+// A probe with more packets than it may have, often just one more.
+static void overload(unsigned char *s) {
+  if (s[0]) s[2 * (1 + rnd(s[0]))] = (unsigned char)(rnd(2) ? 16 : 16 + rnd(240));
+}
+
 // Two pairs change places, or one stands twice.
 static void shuffle_pairs(unsigned char *s, size_t len) {
   size_t at = 3 + 2 * (size_t)s[0], q = (len - at) / 2;
@@ -167,12 +182,19 @@ static void shuffle_pairs(unsigned char *s, size_t len) {
   if (rnd(2)) b[0] = keep[0], b[1] = keep[1];
 }
 
+static int has_relay(void) {
+  for (int k = 1; k <= sheet[0]; k++)
+    if (sheet[2 * k] == 0) return 1;
+  return 0;
+}
+
 static size_t some_sheet(void) {
   size_t len = random_sheet(sheet);
-  uint32_t how = rnd(12);
+  uint32_t how = rnd(13);
   if (how == 0) ring(sheet);
   else if (how == 1) shuffle_pairs(sheet, len);
-  else if (how < 5) len = damage(sheet, len, MOST_SHEET - 4);
+  else if (how == 2) overload(sheet);
+  else if (how < 6) len = damage(sheet, len, MOST_SHEET - 4);
   return len;
 }
 
@@ -217,7 +239,7 @@ static size_t some_plan(unsigned char *to, size_t size) {
 static void compare(long want_yards, long want_plans) {
   while (yards < want_yards || plans < want_plans) {
     size_t len = some_sheet(), room = second_room(sheet, len);
-    sheets++, yards += room > 0;
+    sheets++, yards += room > 0, relayed += room > 0 && has_relay();
     if (room == 0) room = rnd(40);
     for (int by_level = 0; by_level < 2; by_level++) {
       uint32_t off = rnd(4);
@@ -251,9 +273,14 @@ static size_t chain(int p, int packets) {
 
 static void yards_to_try(void) {
   static const unsigned char a[] = {3, 1, 1, 2, 1, 1, 1, 0, 0};
+  static const unsigned char relay[] = {1, 1, 0, 0, 0}, lone[] = {4, 1, 0, 2, 0, 3, 0, 4, 1, 0, 0};
   memcpy(sheet, a, sizeof a);
   named("A with a 9-byte buffer", sizeof a, 9);
   named("A with a 10-byte buffer", sizeof a, 10);
+  memcpy(sheet, relay, sizeof relay);
+  named("a relay alone", sizeof relay, 2);
+  memcpy(sheet, lone, sizeof lone);
+  named("a packet under three relays", sizeof lone, 10);
   named("p = 63", chain(63, 15), YARD_PLAN_BYTES);
   named("p = 64", chain(64, 15), YARD_PLAN_BYTES);
   named("no bytes at all", 0, YARD_PLAN_BYTES);
@@ -268,8 +295,9 @@ static void sizes(void) {
   if (size != YARD_JUDGED_BYTES || compare_judge(len, 0, size).number != 13 || compare_judge(len, 0, size - 1).number != 11) differ("YARD_JUDGED_BYTES", len, 0, size, 0);
 }
 
-// Every refusal is met often enough, or the comparison says little; 10 is never given.
+// Every refusal, and a yard with relays, is met often enough, or the comparison says little; 10 is never given.
 static void enough(void) {
+  if (relayed < yards / 4) printf("only %ld of %ld yards have relays\n", relayed, yards), exit(1);
   for (int k = 0; k < 18; k++)
     if (k != 10 && numbers[k] < ENOUGH) printf("number %d was met only %ld times\n", k, numbers[k]), exit(1);
 }
@@ -321,7 +349,7 @@ int main(int argc, char **argv) {
   sizes();
   compare(atol(argv[2]), atol(argv[3]));
   if (yards >= 20000) enough();
-  printf("%ld yards and %ld refused sheets, %ld plannings, %ld listings, %ld telephone answers and %ld judged plans agree; by number:", yards, sheets - yards, plannings, listings, asked, plans);
+  printf("%ld yards, %ld of them with relays, and %ld refused sheets, %ld plannings, %ld listings, %ld telephone answers and %ld judged plans agree; by number:", yards, relayed, sheets - yards, plannings, listings, asked, plans);
   for (int k = 0; k < 18; k++) printf(" %d: %ld", k, numbers[k]);
   printf("\n");
   return 0;

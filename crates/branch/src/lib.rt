@@ -1,10 +1,11 @@
-// The packets of a yard and of its heaviest branch. Tables are by node; outside them every number is 0.
+// The packets of a yard, of its heaviest branch, and of its slowest one with the lag. Tables are by node; outside them every number is 0.
 ghost use mathlib.Core.Path.{_≡_};
 ghost use mathlib.Core.Bool.{cond};
-ghost use Prim.Native.Nat.{max};
+ghost use Prim.Native.Nat.{_-_, _*_, _≤_, max};
 ghost use lib.ListN.{length, getD};
-ghost use Rattle.meaning.specs.Words.{places, sumProbes, byNode};
-ghost use Rattle.meaning.specs.Yard.{reaches, branchPackets, heaviestOf};
+ghost use Rattle.meaning.specs.Words.{places, sumProbes, mostProbes, byNode};
+ghost use Rattle.meaning.specs.Yard.{reaches, lagOn, branchPackets, branchLag, heaviestOf, slowestOf};
+ghost use Rattle.branch.specs.Weight.{weightOf};
 use meaning::Probe;
 
 // All packets of the p probes.
@@ -50,7 +51,7 @@ fn brought(p: u8, parents: &[u8; 65], packets: &[u8; 65], top: Probe, v: Probe) 
 // The packets of the branch of top; a probe past the table's end has none.
 fn branch(p: u8, parents: &[u8; 65], packets: &[u8; 65], top: Probe) -> u16
     requires { ⌜ length (now packets) ≡ places ⌝ }
-    ensures { λ r. ⌜ r ≡ branchPackets p (byNode (now (parents .entry))) (byNode (now (packets .entry))) (top .0) ⌝ }
+    ensures { λ r. ⌜ (r ≡ branchPackets p (byNode (now (parents .entry))) (byNode (now (packets .entry))) (top .0)) × (r ≤ 255 * p) ⌝ }
 {
     let mut all: u16 = 0;
     let mut k: u8 = 0;
@@ -63,6 +64,45 @@ fn branch(p: u8, parents: &[u8; 65], packets: &[u8; 65], top: Probe) -> u16
     all
 }
 
+// What is left of a number, never below 0.
+fn less(from: u8, taken: u8) -> u8
+    ensures { λ r. ⌜ r ≡ from - taken ⌝ }
+{
+    if from < taken {
+        return 0;
+    }
+    from - taken
+}
+
+// The lag of the walk to parents from v when it comes to top; each hop adds at most one, so that it is never more than the hops.
+fn lag_on(parents: &[u8; 65], packets: &[u8; 65], top: Probe, hops: u8, v: Probe) -> u8
+    ensures { λ r. ⌜ r ≡ lagOn (byNode (now (parents .entry))) (byNode (now (packets .entry))) (top .0) hops 0 (v .0) ⌝ }
+{
+    let end = top.0 as usize;
+    let mut node = v.0 as usize;
+    let mut lag: u8 = 0;
+    let mut left = hops;
+    while 0 < left {
+        if node == end {
+            return lag;
+        }
+        node = laws::number_at(parents, node) as usize;
+        lag = less(lag + 1, laws::number_at(packets, node));
+        left -= 1;
+    }
+    lag
+}
+
+// The lag that v brings to the branch of top.
+fn lag_brought(parents: &[u8; 65], packets: &[u8; 65], top: Probe, hops: u8, v: Probe) -> u8
+    ensures { λ r. ⌜ r ≡ cond (reaches (byNode (now (parents .entry))) (top .0) hops (v .0)) (lagOn (byNode (now (parents .entry))) (byNode (now (packets .entry))) (top .0) hops 0 (v .0)) 0 ⌝ }
+{
+    if comes_to(parents, top, hops, v) {
+        return lag_on(parents, packets, top, hops, v);
+    }
+    0
+}
+
 // The larger of two numbers.
 fn larger(a: u16, b: u16) -> u16
     ensures { λ r. ⌜ r ≡ max a b ⌝ }
@@ -73,17 +113,62 @@ fn larger(a: u16, b: u16) -> u16
     a
 }
 
-// The packets of the heaviest branch, 0 with no probes; 256, the last of 255 probes, is no byte, and no walk comes to it.
-pub fn heaviest(p: u8, parents: [u8; 65], packets: [u8; 65]) -> u16
-    ensures { λ r. ⌜ r ≡ heaviestOf p (byNode parents) (byNode packets) ⌝ }
+// The lag of the branch of top; 256, the last of 255 probes, is no byte, and goes on from node 0 as 65 and 66 do.
+fn branch_lag(p: u8, parents: &[u8; 65], packets: &[u8; 65], top: Probe) -> u16
+    requires { ⌜ length (now parents) ≡ places ⌝ }
+    ensures { λ r. ⌜ (r ≡ branchLag p (byNode (now (parents .entry))) (byNode (now (packets .entry))) (top .0)) × (r ≤ 255) ⌝ }
+{
+    let mut most: u16 = 0;
+    let mut k: u8 = 0;
+    while k < p {
+        if k < 254 {
+            most = larger(
+                most,
+                lag_brought(parents, packets, top, p, Probe(k + 2)) as u16,
+            );
+        }
+        k += 1;
+    }
+    most
+}
+
+// The packets of the branch of top, and its lag where lags count.
+fn weight(p: u8, parents: &[u8; 65], packets: &[u8; 65], lags: bool, top: Probe) -> u16
+    requires { ⌜ (length (now parents) ≡ places) × (length (now packets) ≡ places) ⌝ }
+    ensures { λ r. ⌜ r ≡ weightOf lags p (byNode (now (parents .entry))) (byNode (now (packets .entry))) (top .0) ⌝ }
+{
+    let all = branch(p, parents, packets, top);
+    if lags {
+        return all + branch_lag(p, parents, packets, top);
+    }
+    all
+}
+
+// The most that a branch weighs, 0 with no probes; no walk comes to 256, the last of 255 probes, which is no byte.
+fn most_weight(p: u8, parents: [u8; 65], packets: [u8; 65], lags: bool) -> u16
+    ensures { λ r. ⌜ r ≡ mostProbes p (weightOf lags p (byNode parents) (byNode packets)) ⌝ }
 {
     let mut best: u16 = 0;
     let mut k: u8 = 0;
     while k < p {
         if k < 254 {
-            best = larger(best, branch(p, &parents, &packets, Probe(k + 2)));
+            best = larger(best, weight(p, &parents, &packets, lags, Probe(k + 2)));
         }
         k += 1;
     }
     best
+}
+
+// The packets of the heaviest branch, 0 with no probes.
+pub fn heaviest(p: u8, parents: [u8; 65], packets: [u8; 65]) -> u16
+    ensures { λ r. ⌜ r ≡ heaviestOf p (byNode parents) (byNode packets) ⌝ }
+{
+    most_weight(p, parents, packets, false)
+}
+
+// The packets and the lag of the slowest branch, 0 with no probes.
+pub fn slowest(p: u8, parents: [u8; 65], packets: [u8; 65]) -> u16
+    ensures { λ r. ⌜ r ≡ slowestOf p (byNode parents) (byNode packets) ⌝ }
+{
+    most_weight(p, parents, packets, true)
 }

@@ -100,7 +100,6 @@ record PassedRecord (p k parent packets : ℕ) : Type 0 where
   parent-least : 1 ≤ parent
   parent-most : parent ≤ p + 1
   parent-other : parent ≡ k + 2 → ⊥
-  packets-least : 1 ≤ packets
   packets-most : packets ≤ 15
 
 passed-record : (records : List ℕ) (p k : ℕ) → isAccepted (probeTest records p k) ≡ true
@@ -110,15 +109,13 @@ passed-record records p k h =
     let both = then-accepted _ _ h in
     let parent = or-false _ _ (given-accepted 4 (k + 2) _ refl (both .0)) in
     let range = or-false _ _ (parent .0) in
-    let packets = or-false _ _ (given-accepted 5 (k + 2) _ refl (both .1)) in
+    let packets = given-accepted 5 (k + 2) _ refl (both .1) in
     let parent-some = eqb-false (firstOf records k) 0 (range .0) in
-    let packets-some = eqb-false (secondOf records k) 0 (packets .0) in
     record {
       parent-least = omega arith;
       parent-most = ltb-false (p + 1) (firstOf records k) (range .1);
       parent-other = eqb-false (firstOf records k) (k + 2) (parent .1);
-      packets-least = omega arith;
-      packets-most = ltb-false 15 (secondOf records k) (packets .1);
+      packets-most = ltb-false 15 (secondOf records k) packets;
     }
 
 -- what RULES says of each probe of an accepted sheet
@@ -126,7 +123,6 @@ pub record AcceptedProbe (s : List ℕ) (v : ℕ) : Type 0 where
   pub parent-least : 1 ≤ parentOf s v
   pub parent-most : parentOf s v ≤ probeCount s + 1
   pub parent-other : parentOf s v ≡ v → ⊥
-  pub packets-least : 1 ≤ packetsOf s v
   pub packets-most : packetsOf s v ≤ 15
   pub arrives : reaches (parentOf s) 1 (probeCount s) v ≡ true
 
@@ -160,7 +156,6 @@ accepted-probe s records walks v h =
       parent-least = omega (arith, parent, passed .parent-least);
       parent-most = omega (arith, parent, passed .parent-most);
       parent-other = λ same. passed .parent-other (omega (arith, parent, same));
-      packets-least = omega (arith, packets, passed .packets-least);
       packets-most = omega (arith, packets, passed .packets-most);
       arrives =
           subst (λ (u : ℕ). reaches (parentOf s) 1 (probeCount s) u ≡ true) its

@@ -5,7 +5,7 @@ use mathlib.Core.List.{List}
 use Prim.Native.Nat.{ℕ, _+_, _≤_}
 use native.Mathlib.Omega.{arith}
 use Rattle.meaning.specs.Yard.{isProbe}
-use Rattle.meaning.specs.Sheet.{probeCount, parentOf, packetsOf, pairRecords, pairCount, interfere}
+use Rattle.meaning.specs.Sheet.{probeCount, parentOf, pairRecords, pairCount, interfere}
 use Rattle.meaning.specs.Conflict.{entry, conflictTable}
 use Rattle.meaning.specs.Answer.{isAccepted, sheetTest}
 use Rattle.laws.proofs.Walk.{probe-below}
@@ -23,9 +23,6 @@ module _ (s : List ℕ) (ok : isAccepted (sheetTest s) ≡ true) where
 
   pub inside : (v : ℕ) → isProbe (probeCount s) v ≡ true → (1 ≤ parentOf s v) × (parentOf s v ≤ probeCount s + 1)
   inside v h = (yard .probe v h .parent-least, yard .probe v h .parent-most)
-
-  pub some-packets : (v : ℕ) → isProbe (probeCount s) v ≡ true → 1 ≤ packetsOf s v
-  some-packets v h = yard .probe v h .packets-least
 
   pub rooted : Rooted (probeCount s) (parentOf s)
   rooted =

@@ -31,7 +31,7 @@ module _ (p : ℕ) (parent : ℕ → ℕ) (rooted : Rooted p parent) where
   lost top (suc left) h =
       ap₂ _||_ (ne-eqb 0 top (λ e. omega arith)) (ap (reaches parent top left) (rooted .nowhere) ∙ lost top left h)
 
-  gone : (top left : ℕ) → 2 ≤ top → reaches parent top left 1 ≡ false
+  pub gone : (top left : ℕ) → 2 ≤ top → reaches parent top left 1 ≡ false
   unfolding reaches
   gone top zero h = ne-eqb 1 top (λ e. omega arith)
   gone top (suc left) h =
@@ -45,7 +45,7 @@ module _ (p : ℕ) (parent : ℕ → ℕ) (rooted : Rooted p parent) where
       (same-or-other top 1)
 
   -- more hops than lead to the gateway reach nothing more
-  reaches-same : (top a b v : ℕ) → 1 ≤ top → a ≤ b → reaches parent 1 a v ≡ true → reaches parent top b v ≡ reaches parent top a v
+  pub reaches-same : (top a b v : ℕ) → 1 ≤ top → a ≤ b → reaches parent 1 a v ≡ true → reaches parent top b v ≡ reaches parent top a v
   reaches-same top zero b v ht h r =
       ⊎-elim (λ (e : v ≡ top). reaches-here parent top b v e ∙ sym (reaches-here parent top 0 v e))
       (λ (ne : v ≢ top).
@@ -71,15 +71,14 @@ module _ (p : ℕ) (parent : ℕ → ℕ) (rooted : Rooted p parent) where
   unfolding reaches
   below-on top v ht h = sym (reaches-same top p (suc p) v ht (omega arith) (rooted .arrives v h))
 
-  level : ℕ → ℕ
+  abbrev level : ℕ → ℕ
   level v = climb parent p v
 
-  level-up : (v : ℕ) → isProbe p v ≡ true → level v ≡ suc (level (parent v))
-  unfolding level
+  pub level-up : (v : ℕ) → isProbe p v ≡ true → level v ≡ suc (level (parent v))
   level-up v h = let least = probe-least p v h in climb-up parent p v (rooted .arrives v h) (λ e. omega arith) .0
 
   -- on a walk levels fall
-  falls : (top left v : ℕ) → 2 ≤ top → 1 ≤ v → v ≤ p + 1 → reaches parent top left v ≡ true → level top ≤ level v
+  pub falls : (top left v : ℕ) → 2 ≤ top → 1 ≤ v → v ≤ p + 1 → reaches parent top left v ≡ true → level top ≤ level v
   falls top zero v ht from to r = omega (arith, ap level (reaches-none parent top v r))
   falls top (suc left) v ht from to r =
       ⊎-elim (λ (e : v ≡ top). omega (arith, ap level e))

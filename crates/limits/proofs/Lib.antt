@@ -2,6 +2,7 @@
 pub mod Sums
 pub mod Served
 pub mod Branch
+pub mod Lag
 pub mod AcceptedYard
 pub mod Fewest
 pub mod Sending

@@ -1,11 +1,12 @@
--- Demand 3, by level: never more slots than colours times all packets. A level that holds a packet when a round begins sends in it: in its colour's turn
+-- Demand 3, by level: never more slots than colours times all packets and the lag of the levels. A level that holds a packet when a round begins sends in it: in its colour's turn
 -- a holder is taken, or one that conflicts with it was, and that one is of the same level. The levels form a line, so after as many rounds as there are
--- packets all are home.
+-- packets, and as the first level may be behind, all are home.
 use mathlib.Core.Path.{_≡_, refl, sym, ap, ap₂, _∙_, subst}
 use mathlib.Core.Bool.{Bool, true, false, cond, not, _&&_}
 use mathlib.Core.List.{List}
-use mathlib.Core.Logic.{_⊎_, inl, inr, ⊎-elim}
-use Prim.Native.Nat.{ℕ, suc, _+_, _-_, _*_, _≤_, _<_, min}
+use mathlib.Core.Logic.{_≢_, _⊎_, inl, inr, ⊎-elim}
+use Prim.Native.Nat.{ℕ, zero, suc, _+_, _-_, _*_, _≤_, _<_, min}
+use native.Mathlib.Nat.{mul-le-mul-left}
 use native.Mathlib.Decide.{decLe}
 use native.Mathlib.Omega.{arith}
 use lib.Dec.{eqb}
@@ -13,24 +14,27 @@ use lib.ListN.{length, getD, set, replicate}
 use lib.Seq.{getD-set-same}
 use borrow.Author.Tests.{eq-eqb, eqb-true, ltb-false, lt-ltb}
 use Rattle.meaning.specs.Words.{sumProbes, places}
-use Rattle.meaning.specs.Yard.{isProbe}
+use Rattle.meaning.specs.Yard.{isProbe, reaches, climb, branchLag}
 use Rattle.meaning.specs.Sheet.{probeCount, parentOf, packetsOf, levelOf, hops, allPackets}
 use Rattle.meaning.specs.Conflict.{entry, conflictTable}
 use Rattle.meaning.specs.Colour.{coloursUsed, depth, levelColours}
 use Rattle.meaning.specs.Rounds.{Progress, holds, outside, clashes, joins, joined, ownersByLevel, turn as turnSlots, byLevel, slotsOf}
 use Rattle.meaning.specs.Answer.{isAccepted, sheetTest}
-use Rattle.laws.proofs.Turns.{forEach-one, some-none, some-where}
-use Rattle.laws.proofs.Walk.{probe-least, probe-most, probe-yes}
+use Rattle.laws.proofs.Turns.{forEach-one, some-none, some-where, same-or-other}
+use Rattle.laws.proofs.Walk.{probe-least, probe-most, probe-yes, reaches-here, reaches-on, climb-most}
 use Rattle.laws.proofs.Slots.{Only, only-joined, and-left, and-right, never, true-or-false}
 use Rattle.laws.proofs.Joining.{nobody-chosen, joined-long, joined-keep}
 use Rattle.laws.proofs.Grounds.{level-least}
 use Rattle.laws.proofs.Levels.{most-holds, table-conflicts, level-deep, depth-most, levels-proper}
 use Rattle.limits.specs.Sent.{inflow, sent}
+use Rattle.limits.specs.Line.{lineLag}
 use Rattle.limits.proofs.Sums.{zero-either, sum-zero, probe-at}
 use Rattle.limits.proofs.Served.{served, inflow-least, inflow-part}
 use Rattle.limits.proofs.Sending.{inflow-add, inflow-same}
 use Rattle.limits.proofs.Serving.{Owning, Kept, way, turn, after, more-sent, turn-sent, owner-sends, serves, slots-most}
 use Rattle.limits.proofs.LevelLine as Line
+use Rattle.limits.proofs.Branch.{Rooted, level-up}
+use Rattle.limits.proofs.Lag.{most-over, lags, lag-levels, no-lag}
 use Rattle.limits.proofs.OneLevel.{one-level}
 use Rattle.limits.proofs.AcceptedYard as Yard
 
@@ -136,10 +140,6 @@ module _ (s : List ℕ) (ok : isAccepted (sheetTest s) ≡ true) where
         Line.line-parts s ok (packetsOf s) at,
         Line.line-flow (depth s) beyond at h (Line.from-end s ok (packetsOf s)),
       )
-
-  some-there : (at : ℕ) → isProbe (depth s) at ≡ true → 1 ≤ online (packetsOf s) at
-  unfolding online
-  some-there at h = Line.line-some s ok (packetsOf s) (Yard.some-packets s ok) at h
 
   beyond-first : beyond 2 ≡ sumProbes (probeCount s) (packetsOf s)
   unfolding beyond
@@ -253,30 +253,51 @@ module _ (s : List ℕ) (ok : isAccepted (sheetTest s) ≡ true) where
         (λ now. online (sent (now .slots)) at) (λ now. along (sent (now .slots)) at) balanced (λ c now. (grows c now at, along-grows c now)) empty
         (its - 1) (omega (arith, its-least, its-most)) owes r
 
-  -- after as many rounds as there are packets, each level has sent all from there on
-  all-sent : (at : ℕ) → isProbe (depth s) at ≡ true → (r : ℕ) → min (beyond at) r ≤ online (sent (after s ok by r .slots)) at
-  unfolding along
-  all-sent at h r =
-      omega (
-        arith,
-        served (depth s) (λ m. m - 1) (online (packetsOf s)) beyond (λ _. 0) (λ i n. online (sent (after s ok by i .slots)) n)
-            (λ n hn. omega (arith, beyond-parts n hn))
-            (λ c _ up. omega (arith, some-there (c - 1) up))
-            (λ i n hn. serves-level n hn i)
-            r at h,
-      )
+  -- the levels, one below the other, are a yard too
+  arrives-line : (left at : ℕ) → 1 ≤ at → at ≤ left + 1 → reaches (λ m. m - 1) 1 left at ≡ true
+  arrives-line zero at from to = reaches-here (λ m. m - 1) 1 0 at (omega arith)
+  arrives-line (suc left) at from to =
+      ⊎-elim (λ (one : at ≡ 1). reaches-here (λ m. m - 1) 1 (suc left) at one)
+      (λ (more : at ≢ 1). reaches-on (λ m. m - 1) 1 left at more ∙ arrives-line left (at - 1) (omega arith) (omega arith))
+      (same-or-other at 1)
 
-  all-home : sumProbes (probeCount s) (packetsOf s) ≤ inflow (probeCount s) (parentOf s) (sent (after s ok by (allPackets s) .slots)) 1
-  unfolding allPackets
+  line : Rooted (depth s) (λ m. m - 1)
+  line =
+      record {
+        inside = λ v h. (omega (arith, probe-least (depth s) v h), omega (arith, probe-most (depth s) v h));
+        arrives = λ v h. arrives-line (depth s) v (omega (arith, probe-least (depth s) v h)) (probe-most (depth s) v h);
+        gateway = refl;
+        nowhere = refl;
+      }
+
+  -- how far a place of the line may be behind
+  behind : ℕ → ℕ
+  behind at = branchLag (depth s) (λ m. m - 1) (online (packetsOf s)) at
+
+  -- after as many rounds as there are packets, and as it may be behind, each level has sent all from there on
+  all-sent : (at : ℕ) → isProbe (depth s) at ≡ true → (r : ℕ) → min (beyond at) (r - behind at) ≤ online (sent (after s ok by r .slots)) at
+  unfolding along behind
+  all-sent at h r =
+      served (depth s) (λ m. m - 1) (online (packetsOf s)) beyond behind (λ i n. online (sent (after s ok by i .slots)) n)
+      (λ n hn. omega (arith, beyond-parts n hn))
+      (λ c hc _. lags (depth s) (λ m. m - 1) (online (packetsOf s)) line c hc)
+      (λ i n hn. serves-level n hn i)
+      r at h
+
+  abbrev enough : ℕ
+  enough = allPackets s + lineLag s
+
+  all-home : sumProbes (probeCount s) (packetsOf s) ≤ inflow (probeCount s) (parentOf s) (sent (after s ok by enough .slots)) 1
+  unfolding allPackets lineLag behind online
   all-home = go (decLe 1 (depth s))
     where
-      go : Dec (1 ≤ depth s) → sumProbes (probeCount s) (packetsOf s) ≤ inflow (probeCount s) (parentOf s) (sent (after s ok by (allPackets s) .slots)) 1
+      go : Dec (1 ≤ depth s) → sumProbes (probeCount s) (packetsOf s) ≤ inflow (probeCount s) (parentOf s) (sent (after s ok by enough .slots)) 1
       go (yes l) =
           omega (
             arith,
-            all-sent 2 (probe-yes (depth s) 2 (omega arith) (omega arith)) (allPackets s),
+            all-sent 2 (probe-yes (depth s) 2 (omega arith) (omega arith)) enough,
             beyond-first,
-            online-first (sent (after s ok by (allPackets s) .slots)),
+            online-first (sent (after s ok by enough .slots)),
           )
       go (no l) =
           let none : sumProbes (probeCount s) (packetsOf s) ≡ 0 =
@@ -285,6 +306,44 @@ module _ (s : List ℕ) (ok : isAccepted (sheetTest s) ≡ true) where
           omega (arith, none)
 
   -- demand 3, by level
-  pub by-level-most : length (slotsOf s (byLevel s)) ≤ coloursUsed (levelColours s) * allPackets s
+  pub by-level-most : length (slotsOf s (byLevel s)) ≤ coloursUsed (levelColours s) * (allPackets s + lineLag s)
   unfolding slotsOf byLevel
-  by-level-most = slots-most s ok by (allPackets s) (hops s) all-home
+  by-level-most = slots-most s ok by enough (hops s) all-home
+
+  -- by the depth
+  line-levels : lineLag s ≤ depth s - 1
+  unfolding lineLag
+  line-levels =
+      let two : 2 ≤ 2 = omega arith in
+      omega (
+        arith,
+        lag-levels (depth s) (λ m. m - 1) (λ at. inflow (probeCount s) (λ v. levelOf s v + 1) (packetsOf s) at) line 2 two,
+        most-over (depth s) (λ v. cond (reaches (λ m. m - 1) 2 (depth s) v) (climb (λ m. m - 1) (depth s) v - climb (λ m. m - 1) (depth s) 2) 0) (depth s - 1)
+            (λ v h. go v h (reaches (λ m. m - 1) 2 (depth s) v)),
+      )
+    where
+      first : 1 ≤ depth s → climb (λ m. m - 1) (depth s) 2 ≡ suc (climb (λ m. m - 1) (depth s) 1)
+      first deep = level-up (depth s) (λ m. m - 1) line 2 (probe-yes (depth s) 2 (omega arith) (omega arith))
+
+      go : (v : ℕ) → isProbe (depth s) v ≡ true → (b : Bool)
+          → cond b (climb (λ m. m - 1) (depth s) v - climb (λ m. m - 1) (depth s) 2) 0 ≤ depth s - 1
+      go v h true =
+          let deep : 1 ≤ depth s = omega (arith, probe-least (depth s) v h, probe-most (depth s) v h) in
+          omega (arith, climb-most (λ m. m - 1) (depth s) v, first deep)
+      go v h false = omega arith
+
+  pub by-level-depth : length (slotsOf s (byLevel s)) ≤ coloursUsed (levelColours s) * (allPackets s + (depth s - 1))
+  by-level-depth =
+      let more : allPackets s + lineLag s ≤ allPackets s + (depth s - 1) = omega (arith, line-levels) in
+      omega (arith, by-level-most, mul-le-mul-left (coloursUsed (levelColours s)) more)
+
+  -- and, where every probe has a packet, by the packets alone
+  pub by-level-packets : ((v : ℕ) → isProbe (probeCount s) v ≡ true → 1 ≤ packetsOf s v)
+      → length (slotsOf s (byLevel s)) ≤ coloursUsed (levelColours s) * allPackets s
+  unfolding lineLag
+  by-level-packets some =
+      let two : 2 ≤ 2 = omega arith in
+      let none = no-lag (depth s) (λ m. m - 1) (λ at. inflow (probeCount s) (λ v. levelOf s v + 1) (packetsOf s) at) line 2 two
+      (λ at h. Line.line-some s ok (packetsOf s) some at h) in
+      let more : allPackets s + lineLag s ≤ allPackets s = omega (arith, none) in
+      omega (arith, by-level-most, mul-le-mul-left (coloursUsed (levelColours s)) more)

@@ -1,17 +1,18 @@
--- Demand 3, by probe: never more slots than colours times the packets of the heaviest branch. Every probe that holds a packet sends in each round, at the
--- latest in its own colour's turn; so after as many rounds as the heaviest branch has packets all are home.
+-- Demand 3, by probe: never more slots than colours times the packets and the lag of the slowest branch. Every probe that holds a packet sends in each
+-- round, at the latest in its own colour's turn; so after as many rounds as the slowest branch wants all are home.
 use mathlib.Core.Path.{_≡_, sym, ap, ap₂, _∙_}
 use mathlib.Core.Bool.{Bool, true, false, _&&_}
 use mathlib.Core.List.{List}
 use Prim.Native.Nat.{ℕ, suc, _+_, _-_, _*_, _≤_, _<_, min}
+use native.Mathlib.Nat.{mul-le-mul-left}
 use native.Mathlib.Decide.{decLt}
 use native.Mathlib.Omega.{arith}
 use lib.Dec.{eqb}
 use lib.ListN.{length, getD, List·getD-eq-default}
 use borrow.Author.Tests.{eq-eqb, ltb-false, lt-ltb}
 use Rattle.meaning.specs.Words.{tab, sumProbes, places}
-use Rattle.meaning.specs.Yard.{isProbe, branchPackets}
-use Rattle.meaning.specs.Sheet.{probeCount, parentOf, packetsOf, hops, heaviest}
+use Rattle.meaning.specs.Yard.{isProbe, branchPackets, branchLag}
+use Rattle.meaning.specs.Sheet.{probeCount, parentOf, packetsOf, hops, heaviest, longest, slowest}
 use Rattle.meaning.specs.Conflict.{entry, conflictTable}
 use Rattle.meaning.specs.Colour.{coloursUsed, probeColours}
 use Rattle.meaning.specs.Rounds.{Progress, holds, ownersByProbe, byProbe, slotsOf}
@@ -24,6 +25,7 @@ use Rattle.limits.specs.Sent.{inflow, sent}
 use Rattle.limits.proofs.Sums.{probe-at}
 use Rattle.limits.proofs.Served.{served, inflow-least}
 use Rattle.limits.proofs.Branch.{branch-own, branch-all}
+use Rattle.limits.proofs.Lag.{lags, in-slowest, slowest-longest, slowest-heaviest}
 use Rattle.limits.proofs.Serving.{Owning, Kept, turn, after, more-sent, turn-sent, owner-sends, serves, slots-most}
 use Rattle.limits.proofs.AcceptedYard as Yard
 
@@ -101,30 +103,50 @@ module _ (s : List ℕ) (ok : isAccepted (sheetTest s) ≡ true) where
         omega (arith, less, ap (λ (j : ℕ). getD (now .held) j 0) (at .1)))
         (colour - 1) (omega (arith, colour-least, colour-most)) owes r
 
-  -- after as many rounds as the heaviest branch has packets, each probe has sent all of its branch's
-  all-sent : (v : ℕ) → isProbe (probeCount s) v ≡ true → branchPackets (probeCount s) (parentOf s) (packetsOf s) v ≤ sent (after s ok by (heaviest s) .slots) v
-  unfolding heaviest
+  -- after as many rounds as the slowest branch wants, each probe has sent all of its branch's
+  all-sent : (v : ℕ) → isProbe (probeCount s) v ≡ true → branchPackets (probeCount s) (parentOf s) (packetsOf s) v ≤ sent (after s ok by (slowest s) .slots) v
+  unfolding slowest
   all-sent v h =
-      let at = probe-at (probeCount s) v h in
-      let heavy = most-holds (probeCount s) (λ k. branchPackets (probeCount s) (parentOf s) (packetsOf s) (k + 2)) (v - 2) (at .0) in
-      let here = ap (branchPackets (probeCount s) (parentOf s) (packetsOf s)) (at .1) in
-      let enough = served (probeCount s) (parentOf s) (packetsOf s) (branchPackets (probeCount s) (parentOf s) (packetsOf s)) (λ _. 0) (λ r u. sent (after s ok by r .slots) u)
-      (λ u hu. omega (arith, branch-own (probeCount s) (parentOf s) (Yard.rooted s ok) (packetsOf s) u hu))
-      (λ c _ up. omega (arith, Yard.some-packets s ok (parentOf s c) up))
+      let p : ℕ = probeCount s in
+      let enough = served p (parentOf s) (packetsOf s) (branchPackets p (parentOf s) (packetsOf s)) (branchLag p (parentOf s) (packetsOf s))
+      (λ r u. sent (after s ok by r .slots) u)
+      (λ u hu. omega (arith, branch-own p (parentOf s) (Yard.rooted s ok) (packetsOf s) u hu))
+      (λ c hc _. lags p (parentOf s) (packetsOf s) (Yard.rooted s ok) c hc)
       (λ r u hu. serves-probe u hu r)
-      (heaviest s) v h in
-      omega (arith, heavy, here, enough)
+      (slowest s) v h in
+      omega (arith, in-slowest p (parentOf s) (packetsOf s) (Yard.rooted s ok) v h, enough)
 
-  all-home : sumProbes (probeCount s) (packetsOf s) ≤ inflow (probeCount s) (parentOf s) (sent (after s ok by (heaviest s) .slots)) 1
+  all-home : sumProbes (probeCount s) (packetsOf s) ≤ inflow (probeCount s) (parentOf s) (sent (after s ok by (slowest s) .slots)) 1
   all-home =
       omega (
         arith,
         branch-all (probeCount s) (parentOf s) (Yard.rooted s ok) (packetsOf s),
-        inflow-least (probeCount s) (parentOf s) (branchPackets (probeCount s) (parentOf s) (packetsOf s)) (sent (after s ok by (heaviest s) .slots)) 1
+        inflow-least (probeCount s) (parentOf s) (branchPackets (probeCount s) (parentOf s) (packetsOf s)) (sent (after s ok by (slowest s) .slots)) 1
             (λ k hk _. all-sent (k + 2) (probe-yes (probeCount s) (k + 2) (omega arith) (omega arith))),
       )
 
   -- demand 3, by probe
-  pub by-probe-most : length (slotsOf s (byProbe s)) ≤ coloursUsed (probeColours s) * heaviest s
+  pub by-probe-most : length (slotsOf s (byProbe s)) ≤ coloursUsed (probeColours s) * slowest s
   unfolding slotsOf byProbe
-  by-probe-most = slots-most s ok by (heaviest s) (hops s) all-home
+  by-probe-most = slots-most s ok by (slowest s) (hops s) all-home
+
+  -- by the levels below each top
+  pub by-probe-levels : length (slotsOf s (byProbe s)) ≤ coloursUsed (probeColours s) * longest s
+  unfolding slowest longest
+  by-probe-levels =
+      omega (
+        arith,
+        by-probe-most,
+        mul-le-mul-left (coloursUsed (probeColours s)) (slowest-longest (probeCount s) (parentOf s) (packetsOf s) (Yard.rooted s ok)),
+      )
+
+  -- and, where every probe has a packet, by the heaviest branch alone
+  pub by-probe-packets : ((v : ℕ) → isProbe (probeCount s) v ≡ true → 1 ≤ packetsOf s v)
+      → length (slotsOf s (byProbe s)) ≤ coloursUsed (probeColours s) * heaviest s
+  unfolding slowest heaviest
+  by-probe-packets some =
+      omega (
+        arith,
+        by-probe-most,
+        mul-le-mul-left (coloursUsed (probeColours s)) (slowest-heaviest (probeCount s) (parentOf s) (packetsOf s) (Yard.rooted s ok) some),
+      )

@@ -12,8 +12,8 @@ use Rattle.meaning.specs.declared.Planned.{Planned}
 use Rattle.meaning.specs.declared.Told.{Told}
 use Rattle.meaning.specs.declared.Verdict.{Verdict}
 use Rattle.meaning.specs.Words.{Bytes, forEach, some, sum, most, tab, places, probesThat}
-use Rattle.meaning.specs.Yard.{reaches, climb, climbed}
-use Rattle.meaning.specs.Sheet.{twoAt, probeCount, parentOf, packetsOf, levelOf, hops, allPackets, heaviest, interfere}
+use Rattle.meaning.specs.Yard.{reaches, climb, climbed, lagOn}
+use Rattle.meaning.specs.Sheet.{twoAt, probeCount, parentOf, packetsOf, levelOf, hops, allPackets, heaviest, longest, slowest, interfere}
 use Rattle.meaning.specs.Plan.{twoBytes, slotBytes, slotsFrom, roomFor, front}
 use Rattle.meaning.specs.Conflict.{disturb, conflict, tableOf, entry, conflictTable}
 use Rattle.meaning.specs.Colour.{smallestFree, nextOf, colouredBy, probeColours, levelsConflict, levels, depth, levelColours}
@@ -48,7 +48,8 @@ many (suc k) piece rest = before piece (many k piece rest)
 -- what a row says of the sheet that it begins with. `tested` gives number and place. `conflicts` gives for each probe those that it conflicts
 -- with, `level-conflicts` the same of levels. A planner's row gives the length of the buffer lent, whose bytes are all `ee`; then number, place, colours, slots and bytes written; then
 -- the whole buffer afterwards. A judge's row gives the plan; then number, place and slots; `holding` gives it too, and what the nodes from 0
--- on hold after its slots. The telephone's row gives number and place, then the slots at least, in our plan, and at most. A plan's slots, a count's bytes,
+-- on hold after its slots. A row of branches gives the
+-- heaviest, the longest and the slowest; the telephone's number and place, then the slots at least, in our plan, and at most. A plan's slots, a count's bytes,
 -- and a number's and a slot's text stand by themselves
 pub data Row : Type 0 where
   tested : String → ℕ → ℕ → Row
@@ -63,6 +64,7 @@ pub data Row : Type 0 where
   holding : String → String → List ℕ → Row
   chosen : String → String → String → String → Row
   listed : String → String → Row
+  branches : String → List ℕ → Row
   asked-for : String → List ℕ → Row
   count-bytes : ℕ → String → Row
   slots-read : String → List (List ℕ) → Row
@@ -137,6 +139,7 @@ true-row (holding sheet plan packets) = same (take (probeCount s + 2) (slotsJudg
     start = record { outcome = accepted; at = 2; held = tab places (packetsOf s) }
 true-row (chosen sheet a b handed) = same (handedBack (choice (hex sheet) (hex a) (hex b)) (hex a) (hex b)) (hex handed)
 true-row (listed sheet printed) = same (listing (hex sheet)) (text printed)
+true-row (branches sheet numbers) = same (heaviest (hex sheet) ∷ longest (hex sheet) ∷ slowest (hex sheet) ∷ []) numbers
 true-row (asked-for sheet numbers) = same (told (asked (hex sheet))) numbers
 true-row (count-bytes number written) = same (twoBytes number) (hex written)
 true-row (slots-read plan slots) = alike (slotsFrom (hex plan) 2 (twoAt (hex plan) 0)) slots
@@ -164,6 +167,10 @@ turned = "03 03 01 04 01 01 01 00 00"
 
 ring : String
 ring = "02 03 01 02 01 00 00"
+
+-- a lone packet below three relays
+below-relays : String
+below-relays = "04 01 00 02 00 03 00 04 01 00 00"
 
 -- levels one below the other, so that the middle one has the most neighbours
 five : String
@@ -211,17 +218,17 @@ yards =
     ∷ tested "02 03 01 01 01 00 00" 0 0
     ∷ tested "02 01 01 04 01 00 00" 4 3
     ∷ tested "02 01 01 03 01 00 00" 4 3
-    ∷ tested "01 00 00 00 00" 4 2
+    ∷ tested "01 00 10 00 00" 4 2
     ∷ tested "02 01 10 00 01 00 00" 5 2
-    -- 5: packets 0 or above 15
-    ∷ tested "01 01 00 00 00" 5 2
+    -- 5: packets above 15; a relay has none
+    ∷ tested "01 01 00 00 00" 0 0
     ∷ tested "01 01 0f 00 00" 0 0
     ∷ tested "01 01 10 00 00" 5 2
-    ∷ tested "02 01 01 01 00 00 00" 5 3
+    ∷ tested "02 01 01 01 10 00 00" 5 3
     -- 6: the first probe that never arrives, behind 4 and 5 of all probes; a walk may take p hops
     ∷ tested ring 6 2
     ∷ tested "03 01 01 04 01 03 01 00 00" 6 3
-    ∷ tested "03 03 01 02 01 01 00 00 00" 5 4
+    ∷ tested "03 03 01 02 01 01 10 00 00" 5 4
     ∷ tested chain 0 0
     ∷ tested turned 0 0
     -- 6 before 7; 7: a is 0, a ≥ b, or b above n; the place is the pair's
@@ -347,14 +354,30 @@ yards =
     ∷ plan-by-probe "00 00 00" 2 (0 ∷ 0 ∷ 0 ∷ 0 ∷ 2 ∷ []) "00 00"
     ∷ plan-by-level "00 00 00" 2 (0 ∷ 0 ∷ 0 ∷ 0 ∷ 2 ∷ []) "00 00"
     ∷ plan-by-probe "00 00 00" 1 (9 ∷ 0 ∷ 0 ∷ 0 ∷ 0 ∷ []) "ee"
+    ∷ plan-by-probe "01 01 00 00 00" 3 (0 ∷ 0 ∷ 1 ∷ 0 ∷ 2 ∷ []) "00 00 ee"
+    ∷ plan-by-probe below-relays 10 (0 ∷ 0 ∷ 3 ∷ 4 ∷ 10 ∷ []) "00 04 01 05 01 04 01 03 01 02"
+    ∷ plan-by-level "02 01 00 01 04 00 00" 10 (0 ∷ 0 ∷ 1 ∷ 4 ∷ 10 ∷ []) "00 04 01 03 01 03 01 03 01 03"
+    ∷ plan-by-probe "02 01 00 01 04 00 00" 10 (0 ∷ 0 ∷ 2 ∷ 4 ∷ 10 ∷ []) "00 04 01 03 01 03 01 03 01 03"
+    ∷ plan-by-probe "04 01 00 01 01 02 01 03 01 00 00" 12 (0 ∷ 0 ∷ 2 ∷ 4 ∷ 11 ∷ []) "00 04 02 04 05 01 03 01 02 01 03 ee"
     ∷ plan-by-level "00 00 00" 1 (9 ∷ 0 ∷ 0 ∷ 0 ∷ 0 ∷ []) "ee"
-    -- the telephone: at most is the smaller of colours × heaviest branch and hops: in the arms 6 and not 9, in the star of 1, 1 and 15 packets 17 and not 45
+    -- the telephone: at most is the smaller of colours × slowest branch and hops: in the arms 6 and not 9, in the star of 1, 1 and 15 packets 17 and not 45
     ∷ asked-for ring (6 ∷ 2 ∷ 0 ∷ 0 ∷ 0 ∷ [])
     ∷ asked-for "00 00 00" (0 ∷ 0 ∷ 0 ∷ 0 ∷ 0 ∷ [])
     ∷ asked-for A (0 ∷ 0 ∷ 3 ∷ 3 ∷ 4 ∷ [])
     ∷ asked-for chain (0 ∷ 0 ∷ 3 ∷ 6 ∷ 6 ∷ [])
     ∷ asked-for (arms "00 00") (0 ∷ 0 ∷ 6 ∷ 6 ∷ 6 ∷ [])
     ∷ asked-for "03 01 01 01 01 01 0f 00 00" (0 ∷ 0 ∷ 17 ∷ 17 ∷ 17 ∷ [])
+    -- the packets of the heaviest branch, packets and levels below of the longest, packets and lag of the slowest
+    ∷ branches "00 00 00" (0 ∷ 0 ∷ 0 ∷ [])
+    ∷ branches A (2 ∷ 3 ∷ 2 ∷ [])
+    ∷ branches below-relays (1 ∷ 4 ∷ 4 ∷ [])
+    ∷ branches "03 01 01 02 00 03 02 00 00" (3 ∷ 5 ∷ 4 ∷ [])
+    -- relays: none that never receives sends; a lone packet below three of them, above colours × packets; two with two packets below, where the lag is 1
+    ∷ asked-for "01 01 00 00 00" (0 ∷ 0 ∷ 0 ∷ 0 ∷ 0 ∷ [])
+    ∷ asked-for below-relays (0 ∷ 0 ∷ 1 ∷ 4 ∷ 4 ∷ [])
+    ∷ asked-for "04 01 00 02 02 01 00 04 02 00 00" (0 ∷ 0 ∷ 4 ∷ 5 ∷ 6 ∷ [])
+    ∷ asked-for "04 01 00 01 01 02 01 03 01 00 00" (0 ∷ 0 ∷ 3 ∷ 4 ∷ 4 ∷ [])
+    ∷ asked-for "06 01 00 02 02 03 00 04 00 05 03 06 01 00 00" (0 ∷ 0 ∷ 6 ∷ 18 ∷ 24 ∷ [])
     -- A, by probe and by level; 9 is one byte less than its room
     ∷ plan-by-probe A 10 (0 ∷ 0 ∷ 2 ∷ 3 ∷ 9 ∷ []) "00 03 01 02 02 03 04 01 02 ee"
     ∷ plan-by-probe A 9 (9 ∷ 0 ∷ 0 ∷ 0 ∷ 0 ∷ []) "ee ee ee ee ee ee ee ee ee"
@@ -390,8 +413,8 @@ yards =
 
 -- the one claim: every row is true
 pub proved-yards : T (all-true yards)
-unfolding digit pairs hex many planner verdict told same alike up says true-row all-true A A-with-a-pair chain turned ring five arms mixed star yards
-    forEach some sum most tab probesThat reaches climb climbed parentOf packetsOf levelOf hops allPackets heaviest interfere slotBytes slotsFrom
+unfolding digit pairs hex many planner verdict told same alike up says true-row all-true A A-with-a-pair chain turned ring below-relays five arms mixed star yards
+    forEach some sum most tab probesThat reaches climb climbed lagOn parentOf packetsOf levelOf hops allPackets heaviest longest slowest interfere slotBytes slotsFrom
     disturb conflict conflictTable smallestFree nextOf colouredBy probeColours levelsConflict levels depth levelColours
     joined ownersByProbe ownersByLevel slotOf turnOf moved heldAfter recorded round rounds byProbe byLevel slotsOf
     _then_ inOrder probeTest walkTest pairTest countsTest sheetTest planTest planMade

@@ -4,7 +4,7 @@ use Prim.Native.Nat.{ℕ, _+_, _-_, _*_}
 use lib.Dec.{eqb}
 use lib.ListN.{getD, drop}
 use Rattle.meaning.specs.Words.{Bytes, Node, Relation, some, sumProbes}
-use Rattle.meaning.specs.Yard.{isProbe, levelBy, hopsOf, heaviestOf}
+use Rattle.meaning.specs.Yard.{isProbe, levelBy, hopsOf, heaviestOf, longestOf, slowestOf}
 
 -- a number of two bytes at a place, high byte first
 abbrev pub twoAt : Bytes → (at : ℕ) → ℕ
@@ -65,6 +65,13 @@ allPackets s = sumProbes (probeCount s) (packetsOf s)
 
 unfoldable pub heaviest : Bytes → ℕ
 heaviest s = heaviestOf (probeCount s) (parentOf s) (packetsOf s)
+
+-- Demand 3: its longest branch, and its slowest
+unfoldable pub longest : Bytes → ℕ
+longest s = longestOf (probeCount s) (parentOf s) (packetsOf s)
+
+unfoldable pub slowest : Bytes → ℕ
+slowest s = slowestOf (probeCount s) (parentOf s) (packetsOf s)
 
 -- "The yard sheet in bytes": x and y stand in one of the first q records, either way round
 unfoldable pub interfere : (records : Bytes) → (q : ℕ) → Relation

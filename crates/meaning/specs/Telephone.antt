@@ -3,14 +3,14 @@ use mathlib.Core.Bool.{cond}
 use Prim.Native.Nat.{ℕ, _*_, min}
 use Rattle.meaning.specs.declared.Told.{Told}
 use Rattle.meaning.specs.Words.{Bytes}
-use Rattle.meaning.specs.Sheet.{hops, allPackets, heaviest}
+use Rattle.meaning.specs.Sheet.{hops, allPackets, slowest}
 use Rattle.meaning.specs.Plan.{anyPlan}
 use Rattle.meaning.specs.Rounds.{byProbe}
 use Rattle.meaning.specs.Answer.{isAccepted, planMade}
 
--- Demand 3: at most as many slots as colours times the packets of the heaviest branch, and at most as many as hops; the smaller counts
+-- Demand 3: at most as many slots as colours times the packets and the lag of the slowest branch, and at most as many as hops; the smaller counts
 abbrev pub atMost : (s : Bytes) → (colours : ℕ) → ℕ
-atMost s colours = min (colours * heaviest s) (hops s)
+atMost s colours = min (colours * slowest s) (hops s)
 
 -- Demand 3: the telephone's answer: at least all packets, ours by probe in a buffer with room for any plan, and at most; on refusal all three are 0
 unfoldable pub asked : Bytes → Told

@@ -1,6 +1,6 @@
--- RULES, "Numbers of the yard": probes, levels, hops; and the packets of a branch, for demand 3.
+-- RULES, "Numbers of the yard": probes, levels, hops; and the packets and the lag of a branch, for demand 3.
 use mathlib.Core.Bool.{Bool, cond, _&&_, _||_}
-use Prim.Native.Nat.{ℕ, zero, suc, _+_, _*_}
+use Prim.Native.Nat.{ℕ, zero, suc, _+_, _-_, _*_}
 use lib.Dec.{eqb, leb}
 use Rattle.meaning.specs.declared.Walk.{Walk}
 use Rattle.meaning.specs.declared.Walk.the-variants.{Arrives, Never}
@@ -39,3 +39,24 @@ branchPackets p parent packets top = sumProbes p (λ v. cond (reaches parent top
 -- "The lister": the packets of the heaviest branch, 0 with no probes
 abbrev pub heaviestOf : (p : ℕ) → (parent : Node → Node) → (packets : Node → ℕ) → ℕ
 heaviestOf p parent packets = mostProbes p (branchPackets p parent packets)
+
+-- Demand 3: the levels below the top of a branch
+abbrev pub levelsBelow : (p : ℕ) → (parent : Node → Node) → (top : Node) → ℕ
+levelsBelow p parent top = mostProbes p (λ v. cond (reaches parent top p v) (climb parent p v - climb parent p top) 0)
+
+-- Demand 3: the largest, over branches, of packets plus the levels below its top, 0 with no probes
+abbrev pub longestOf : (p : ℕ) → (parent : Node → Node) → (packets : Node → ℕ) → ℕ
+longestOf p parent packets = mostProbes p (λ top. branchPackets p parent packets top + levelsBelow p parent top)
+
+-- Demand 3: the lag of a walk when it comes to the node top: each hop adds one, each packet of the node that it comes to takes one away, never below 0
+unfoldable pub lagOn : (parent : Node → Node) → (packets : Node → ℕ) → (top : Node) → (left lag : ℕ) → Node → ℕ
+lagOn parent packets top zero lag v = lag
+lagOn parent packets top (suc left) lag v = cond (eqb v top) lag (lagOn parent packets top left (lag + 1 - packets (parent v)) (parent v))
+
+-- Demand 3: the lag of a branch: the largest of the walks from its probes to its top
+abbrev pub branchLag : (p : ℕ) → (parent : Node → Node) → (packets : Node → ℕ) → (top : Node) → ℕ
+branchLag p parent packets top = mostProbes p (λ v. cond (reaches parent top p v) (lagOn parent packets top p 0 v) 0)
+
+-- Demand 3: the packets and the lag of the slowest branch, 0 with no probes
+abbrev pub slowestOf : (p : ℕ) → (parent : Node → Node) → (packets : Node → ℕ) → ℕ
+slowestOf p parent packets = mostProbes p (λ top. branchPackets p parent packets top + branchLag p parent packets top)

@@ -1,7 +1,7 @@
 -- A planner plans every accepted sheet in a buffer with room: its own slots are at most the hops, so that 10 is not given; and the three cases are all.
 use mathlib.Core.Path.{_≡_, refl, sym, ap, ap₂, _∙_}
 use mathlib.Core.Bool.{Bool, true, false}
-use Prim.Native.Nat.{_*_, _≤_}
+use Prim.Native.Nat.{ℕ, _+_, _-_, _*_, _≤_}
 use native.Mathlib.Omega.{arith}
 use borrow.Author.Tests.{ltb-true, ltb-false, lt-ltb}
 use lib.Dec.{ltb}
@@ -10,8 +10,9 @@ use lib.Seq.{take-at}
 use Rattle.meaning.specs.declared.Outcome.{Outcome}
 use Rattle.meaning.specs.declared.Planned.{Planned}
 use Rattle.meaning.specs.Words.{Bytes}
-use Rattle.meaning.specs.Sheet.{decidingSheet, hops, heaviest, allPackets}
+use Rattle.meaning.specs.Sheet.{decidingSheet, hops, heaviest, longest, slowest, allPackets}
 use Rattle.meaning.specs.Plan.{planBytes, roomFor, front}
+use Rattle.meaning.specs.Colour.{depth}
 use Rattle.meaning.specs.Rounds.{byProbe, byLevel}
 use Rattle.meaning.specs.Answer.{accepted, isAccepted, given, _then_, sheetTest, planTest, refusedPlan, PlanMade, planMade}
 use Rattle.meaning.specs.Judge.{judge}
@@ -21,10 +22,10 @@ use Rattle.laws.proofs.Own.{OwnPlan, by-probe-plan, by-level-plan}
 use Rattle.laws.proofs.PlanMade.{tested, whole, nothing, makes, sheet-refuses, room-passes}
 use Rattle.limits.proofs.Deciding.{plan-made-decided}
 use Rattle.limits.proofs.Hops.{hops-limit}
-use Rattle.limits.proofs.MostByProbe.{by-probe-most}
-use Rattle.limits.proofs.MostByLevel.{by-level-most}
+use Rattle.limits.proofs.MostByProbe.{by-probe-most, by-probe-levels, by-probe-packets}
+use Rattle.limits.proofs.MostByLevel.{by-level-depth, by-level-packets}
 use Rattle.promises.proofs.Numbers.{sheet-within}
-use Rattle.promises.specs.Answers.{Planner, probe, level, way, slotsBy, answer, after, planOf, Answers, counted, Accepted, Refused, Room, Short}
+use Rattle.promises.specs.Answers.{Planner, probe, level, way, slotsBy, answer, after, planOf, Answers, counted, Accepted, Refused, NoRelay, Room, Short}
 
 own : (planner : Planner) (s : Bytes) → Accepted s → OwnPlan s (way planner s)
 own probe s ok = by-probe-plan s ok
@@ -103,10 +104,32 @@ module _ (planner : Planner) (s buffer : Bytes) where
   pub decides : Answers planner (take decidingSheet s) buffer (answer planner s buffer) (after planner s buffer)
   decides = of-made planner (take decidingSheet s) buffer _ (plan-made-decided (way planner) s (length buffer))
 
-pub by-probe-limit : (s buffer : Bytes) → Accepted s → Room s buffer → answer probe s buffer .slots ≤ answer probe s buffer .colours * heaviest s
-unfolding byProbe
-by-probe-limit s buffer ok room = rw (plans probe s buffer ok room .0) (by-probe-most s ok)
+-- what limits the paper's plan limits the answer
+probe-limit : (s buffer : Bytes) → Accepted s → Room s buffer → (rounds : ℕ) → length (slotsBy probe s) ≤ way probe s .colours * rounds
+    → answer probe s buffer .slots ≤ answer probe s buffer .colours * rounds
+probe-limit s buffer ok room rounds most = rw (plans probe s buffer ok room .0) most
 
-pub by-level-limit : (s buffer : Bytes) → Accepted s → Room s buffer → answer level s buffer .slots ≤ answer level s buffer .colours * allPackets s
-unfolding byLevel
-by-level-limit s buffer ok room = rw (plans level s buffer ok room .0) (by-level-most s ok)
+level-limit : (s buffer : Bytes) → Accepted s → Room s buffer → (rounds : ℕ) → length (slotsBy level s) ≤ way level s .colours * rounds
+    → answer level s buffer .slots ≤ answer level s buffer .colours * rounds
+level-limit s buffer ok room rounds most = rw (plans level s buffer ok room .0) most
+
+module _ (s buffer : Bytes) (ok : Accepted s) (room : Room s buffer) where
+  pub by-probe-limit : answer probe s buffer .slots ≤ answer probe s buffer .colours * slowest s
+  unfolding byProbe
+  by-probe-limit = probe-limit s buffer ok room (slowest s) (by-probe-most s ok)
+
+  pub by-probe-longest : answer probe s buffer .slots ≤ answer probe s buffer .colours * longest s
+  unfolding byProbe
+  by-probe-longest = probe-limit s buffer ok room (longest s) (by-probe-levels s ok)
+
+  pub by-probe-heaviest : NoRelay s → answer probe s buffer .slots ≤ answer probe s buffer .colours * heaviest s
+  unfolding byProbe
+  by-probe-heaviest none = probe-limit s buffer ok room (heaviest s) (by-probe-packets s ok none)
+
+  pub by-level-limit : answer level s buffer .slots ≤ answer level s buffer .colours * (allPackets s + (depth s - 1))
+  unfolding byLevel
+  by-level-limit = level-limit s buffer ok room (allPackets s + (depth s - 1)) (by-level-depth s ok)
+
+  pub by-level-all : NoRelay s → answer level s buffer .slots ≤ answer level s buffer .colours * allPackets s
+  unfolding byLevel
+  by-level-all none = level-limit s buffer ok room (allPackets s) (by-level-packets s ok none)

@@ -2,13 +2,13 @@
 use mathlib.Core.Path.{_≡_}
 use mathlib.Core.Bool.{true, cond}
 use mathlib.Core.List.{List, []}
-use Prim.Native.Nat.{ℕ, _+_, _*_, _≤_, _<_}
+use Prim.Native.Nat.{ℕ, _+_, _-_, _*_, _≤_, _<_}
 use lib.Dec.{eqb}
 use lib.ListN.{length, getD, take}
 use Rattle.meaning.specs.declared.Choice.the-variants.{Neither, First, Second}
 use Rattle.meaning.specs.Words.{Bytes, some, someProbe, mostProbes}
 use Rattle.meaning.specs.Yard.{branchPackets}
-use Rattle.meaning.specs.Sheet.{decidingSheet, probeCount, parentOf, packetsOf, hops, allPackets, heaviest}
+use Rattle.meaning.specs.Sheet.{decidingSheet, probeCount, parentOf, packetsOf, hops, allPackets, heaviest, longest, slowest}
 use Rattle.meaning.specs.Plan.{decidingPlan, planBytes, front}
 use Rattle.meaning.specs.Colour.{coloursUsed, probeColours, depth, levelColours}
 use Rattle.meaning.specs.Answer.{accepted, sheetTest, refusedPlan}
@@ -24,8 +24,8 @@ use Rattle.limits.proofs.Deciding.{verdict-decided, text-decided}
 use Rattle.limits.proofs.Fewest.{slots-least}
 use Rattle.limits.proofs.Tops.{heaviest-at-top}
 use Rattle.telephone.proofs.Limits.{answered, not-answered, least-ours, ours-most, least-any}
-use Rattle.promises.specs.Answers.{Planner, probe, level, way, slotsBy, answer, after, planOf, Answers, counted, Accepted, Refused, Room, Short, Passes, Byte, numbers}
-use Rattle.promises.proofs.Planning.{plans, refuses-sheet, refuses-short, never-ten, own-passes, slots-few, by-probe-limit, by-level-limit, decides}
+use Rattle.promises.specs.Answers.{Planner, probe, level, way, slotsBy, answer, after, planOf, Answers, counted, Accepted, Refused, NoRelay, Room, Short, Passes, Byte, numbers}
+use Rattle.promises.proofs.Planning.{plans, refuses-sheet, refuses-short, never-ten, own-passes, slots-few, by-probe-limit, by-probe-longest, by-probe-heaviest, by-level-limit, by-level-all, decides}
 use Rattle.promises.proofs.Choosing.{first-chosen, second-chosen, neither-chosen}
 use Rattle.promises.proofs.Bytes.{bytes-good, plan-bytes-decide, choice-decided}
 
@@ -91,13 +91,27 @@ second-back = second-chosen
 pub none-back : (s a b : Bytes) → choice s a b ≡ Neither → (handedBack (choice s a b) a b ≡ []) × (Passes s a → ⊥) × (Passes s b → ⊥)
 none-back = neither-chosen
 
--- Demand 3: slots by probe, at most its colours times the packets of the heaviest branch
-pub by-probe-slots : (s buffer : Bytes) → Accepted s → Room s buffer → answer probe s buffer .slots ≤ answer probe s buffer .colours * heaviest s
+-- Demand 3: slots by probe, at most its colours times the packets and the lag of the slowest branch ..
+pub by-probe-slots : (s buffer : Bytes) → Accepted s → Room s buffer → answer probe s buffer .slots ≤ answer probe s buffer .colours * slowest s
 by-probe-slots = by-probe-limit
 
--- Demand 3: slots by level, at most its colours times all packets
-pub by-level-slots : (s buffer : Bytes) → Accepted s → Room s buffer → answer level s buffer .slots ≤ answer level s buffer .colours * allPackets s
+-- .. so at most its colours times the largest, over branches, of packets plus the levels below its top ..
+pub by-probe-slots-deep : (s buffer : Bytes) → Accepted s → Room s buffer → answer probe s buffer .slots ≤ answer probe s buffer .colours * longest s
+by-probe-slots-deep = by-probe-longest
+
+-- .. and, with no relay, its colours times the packets of the heaviest branch
+pub by-probe-slots-full : (s buffer : Bytes) → Accepted s → Room s buffer → NoRelay s
+    → answer probe s buffer .slots ≤ answer probe s buffer .colours * heaviest s
+by-probe-slots-full = by-probe-heaviest
+
+-- Demand 3: slots by level, at most its colours times all packets and the depth less one; with no relay its colours times all packets
+pub by-level-slots : (s buffer : Bytes) → Accepted s → Room s buffer
+    → answer level s buffer .slots ≤ answer level s buffer .colours * (allPackets s + (depth s - 1))
 by-level-slots = by-level-limit
+
+pub by-level-slots-full : (s buffer : Bytes) → Accepted s → Room s buffer → NoRelay s
+    → answer level s buffer .slots ≤ answer level s buffer .colours * allPackets s
+by-level-slots-full = by-level-all
 
 -- Demand 3: no plan that the judge passes, from anyone, has fewer slots than packets
 pub no-fewer-slots : (s plan : Bytes) → Passes s plan → allPackets s ≤ judge s plan .slots

@@ -5,8 +5,9 @@ use mathlib.Core.List.{List, [], _∷_}
 use Prim.Native.Nat.{ℕ, _≤_, _<_}
 use lib.ListN.{length, take}
 use Rattle.meaning.specs.declared.Planned.{Planned}
-use Rattle.meaning.specs.Words.{Bytes, Slots}
-use Rattle.meaning.specs.Sheet.{hops}
+use Rattle.meaning.specs.Words.{Bytes, Node, Slots}
+use Rattle.meaning.specs.Yard.{isProbe}
+use Rattle.meaning.specs.Sheet.{probeCount, packetsOf, hops}
 use Rattle.meaning.specs.Plan.{planBytes, roomFor, front}
 use Rattle.meaning.specs.Rounds.{Way, byProbe, byLevel, slotsOf}
 use Rattle.meaning.specs.Answer.{accepted, isAccepted, sheetTest, planMade}
@@ -56,6 +57,10 @@ Accepted s = isAccepted (sheetTest s) ≡ true
 
 abbrev pub Refused : (s : Bytes) → Type 0
 Refused s = isAccepted (sheetTest s) ≡ false
+
+-- no probe of the sheet is a relay
+abbrev pub NoRelay : (s : Bytes) → Type 0
+NoRelay s = (v : Node) → isProbe (probeCount s) v ≡ true → 1 ≤ packetsOf s v
 
 abbrev pub Room : (s buffer : Bytes) → Type 0
 Room s buffer = roomFor (hops s) ≤ length buffer

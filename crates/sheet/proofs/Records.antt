@@ -17,7 +17,7 @@ module _ (records : List ℕ) (p k a : ℕ) (parentWrong : Bool) (first : a ≡ 
   parent-refused wrong = simp (← first, ← parent, wrong)
 
   module _ (right : parentWrong ≡ false) (b : ℕ) (packetsWrong : Bool) (second : b ≡ secondOf records k)
-      (packets : packetsWrong ≡ (eqb b 0 || ltb 15 b)) where
+      (packets : packetsWrong ≡ ltb 15 b) where
     pub packets-refused : packetsWrong ≡ true → record { number = 5; place = k + 2 } ≡ probeTest records p k
     unfolding probeTest _then_
     packets-refused wrong = simp (← first, ← parent, right, ← second, ← packets, wrong)

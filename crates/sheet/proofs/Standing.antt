@@ -5,8 +5,8 @@ use mathlib.Core.List.{List}
 use Prim.Native.Nat.{ℕ}
 use lib.ListN.{getD}
 use Rattle.meaning.specs.Words.{tab, places, sumProbes}
-use Rattle.meaning.specs.Yard.{heaviestOf}
-use Rattle.meaning.specs.Sheet.{probeCount, pairCount, pairRecords, parentOf, packetsOf, hops, allPackets, heaviest, interfere}
+use Rattle.meaning.specs.Yard.{heaviestOf, slowestOf}
+use Rattle.meaning.specs.Sheet.{probeCount, pairCount, pairRecords, parentOf, packetsOf, hops, allPackets, heaviest, slowest, interfere}
 use Rattle.meaning.specs.Conflict.{tableOf, conflict, conflictTable}
 use Rattle.meaning.specs.Colour.{levels}
 use Rattle.meaning.specs.Answer.{isAccepted, sheetTest}
@@ -51,7 +51,7 @@ module _ (s : List ℕ) (ok : isAccepted (sheetTest s) ≡ true) where
     pub parents-read : (λ (v : ℕ). getD (tree .parents) v 0) ≡ parentOf s
     parents-read = ap {B = ℕ → ℕ} (λ (l : List ℕ). λ v. getD l v 0) (its .parents) ∙ parent-read s ok
 
-    -- the packets likewise, all of them, and those of the heaviest branch
+    -- the packets likewise, all of them, and those of the heaviest and of the slowest branch
     each-packets : (λ (v : ℕ). getD (tree .packets) v 0) ≡ packetsOf s
     each-packets = fun-ext (λ v. ap (λ (l : List ℕ). getD l v 0) (its .packets) ∙ packets-read s ok v)
 
@@ -59,11 +59,20 @@ module _ (s : List ℕ) (ok : isAccepted (sheetTest s) ≡ true) where
     unfolding allPackets
     all-packets-read = ap₂ (λ (p : ℕ) (f : ℕ → ℕ). sumProbes p f) (its .probes) each-packets
 
+    -- whatever is told of probes, parents and packets
+    of-tree : (told : ℕ → (ℕ → ℕ) → (ℕ → ℕ) → ℕ)
+        → told (tree .probes) (λ v. getD (tree .parents) v 0) (λ v. getD (tree .packets) v 0) ≡ told (probeCount s) (parentOf s) (packetsOf s)
+    of-tree told =
+        ap₂ (λ (p : ℕ) (up : ℕ → ℕ). told p up (λ v. getD (tree .packets) v 0)) (its .probes) parents-read
+        ∙ ap (λ (f : ℕ → ℕ). told (probeCount s) (parentOf s) f) each-packets
+
     pub heaviest-read : heaviestOf (tree .probes) (λ v. getD (tree .parents) v 0) (λ v. getD (tree .packets) v 0) ≡ heaviest s
     unfolding heaviest
-    heaviest-read =
-        ap₂ (λ (p : ℕ) (up : ℕ → ℕ). heaviestOf p up (λ v. getD (tree .packets) v 0)) (its .probes) parents-read
-        ∙ ap (λ (f : ℕ → ℕ). heaviestOf (probeCount s) (parentOf s) f) each-packets
+    heaviest-read = of-tree heaviestOf
+
+    pub slowest-read : slowestOf (tree .probes) (λ v. getD (tree .parents) v 0) (λ v. getD (tree .packets) v 0) ≡ slowest s
+    unfolding slowest
+    slowest-read = of-tree slowestOf
 
     -- "Conflicts": the conflict table that is made of a tree and the sheet's pairs is the sheet's
     pub conflicts-read : (table : List (List Bool))

@@ -115,11 +115,11 @@ fn parent_wrong(parent: u16, n: u16, probe: u16) -> bool
     parent == 0 || n < parent || parent == probe
 }
 
-// Packets 0 or above 15.
+// Packets above 15; a relay has none.
 fn packets_wrong(packets: u8) -> bool
-    ensures { λ r. ⌜ r ≡ (eqb packets 0 || ltb 15 packets) ⌝ }
+    ensures { λ r. ⌜ r ≡ ltb 15 packets ⌝ }
 {
-    packets == 0 || 15 < packets
+    15 < packets
 }
 
 // 4 and 5 of probe k + 2.

@@ -10,7 +10,7 @@ use lib.ListN.{length, getD}
 use Rattle.meaning.specs.declared.Planned.{Planned}
 use Rattle.meaning.specs.declared.Told.{Told}
 use Rattle.meaning.specs.Words.{sumProbes}
-use Rattle.meaning.specs.Yard.{heaviestOf}
+use Rattle.meaning.specs.Yard.{slowestOf}
 use Rattle.meaning.specs.Sheet.{allPackets}
 use Rattle.meaning.specs.Plan.{anyPlan}
 use Rattle.meaning.specs.Rounds.{byProbe}
@@ -20,7 +20,7 @@ use Rattle.laws.proofs.PlanMade.{planned-sheet}
 use Rattle.laws.proofs.Grounds.{hops-most}
 use Rattle.sheet.specs.declared.Tree.{Tree}
 use Rattle.sheet.specs.Tree.{treeOf}
-use Rattle.sheet.proofs.Standing.{Standing, standing, all-packets-read, heaviest-read}
+use Rattle.sheet.proofs.Standing.{Standing, standing, all-packets-read, slowest-read}
 
 -- what is told by a planner's answer: of a plan, and of a refusal
 abbrev pub whole : List ℕ → Planned → Told
@@ -58,12 +58,12 @@ module _ (s : List ℕ) (buf : List ℕ) (long : length buf ≡ anyPlan) (planne
       pub most-fits : (most product : ℕ) → most ≡ min product (tree .hops) → most ≤ 59535
       most-fits most product e = omega (arith, e, its .hops, hops-most s sheet-passed)
 
-      pub ask-planned : (least heavy most : ℕ) → least ≡ sumProbes (tree .probes) (λ v. getD (tree .packets) v 0)
-          → heavy ≡ heaviestOf (tree .probes) (λ v. getD (tree .parents) v 0) (λ v. getD (tree .packets) v 0)
-          → most ≡ min (planned .colours * heavy) (tree .hops)
+      pub ask-planned : (least slow most : ℕ) → least ≡ sumProbes (tree .probes) (λ v. getD (tree .packets) v 0)
+          → slow ≡ slowestOf (tree .probes) (λ v. getD (tree .parents) v 0) (λ v. getD (tree .packets) v 0)
+          → most ≡ min (planned .colours * slow) (tree .hops)
           → (record { outcome = planned .outcome; least = least; ours = planned .slots; most = most }) ≡ asked s
-      ask-planned least heavy most sums heaviest-of most-of =
+      ask-planned least slow most sums slowest-of most-of =
           let all = sums ∙ all-packets-read s sheet-passed tree its in
-          let end = most-of ∙ ap₂ (λ (h j : ℕ). min (planned .colours * h) j) (heaviest-of ∙ heaviest-read s sheet-passed tree its) (its .hops) in
+          let end = most-of ∙ ap₂ (λ (h j : ℕ). min (planned .colours * h) j) (slowest-of ∙ slowest-read s sheet-passed tree its) (its .hops) in
           ap₂ (λ (l m : ℕ). record { outcome = planned .outcome; least = l; ours = planned .slots; most = m }) all end
           ∙ sym (told ∙ ap (λ (b : Bool). cond b (whole s planned) (nothing planned)) accepts)

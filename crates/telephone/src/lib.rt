@@ -4,11 +4,11 @@ ghost use Prim.Native.Nat.{_*_, min};
 ghost use Rattle.meaning.specs.Telephone.{asked};
 use meaning::Told;
 
-// Colours times the packets of the heaviest branch, or the hops where they are fewer.
-fn at_most(colours: u8, heaviest: u16, hops: u32) -> u32
-    ensures { λ r. ⌜ r ≡ min (colours * heaviest) hops ⌝ }
+// Colours times the packets and the lag of the slowest branch, or the hops where they are fewer.
+fn at_most(colours: u8, slowest: u16, hops: u32) -> u32
+    ensures { λ r. ⌜ r ≡ min (colours * slowest) hops ⌝ }
 {
-    let product = colours as u32 * heaviest as u32;
+    let product = colours as u32 * slowest as u32;
     if hops < product {
         return hops;
     }
@@ -35,8 +35,8 @@ pub fn ask(sheet: &[u8]) -> Told
     let parents = tree.parents;
     let packets = tree.packets;
     let least = branch::all_packets(p, &packets);
-    let heaviest = branch::heaviest(p, parents, packets);
-    let most = at_most(planned.colours, heaviest, tree.hops) as u16;
+    let slowest = branch::slowest(p, parents, packets);
+    let most = at_most(planned.colours, slowest, tree.hops) as u16;
     Told {
         outcome,
         least,

@@ -24,7 +24,7 @@ sayings =
     ∷ text "the sheet counts more than 63 probes, or more pairs than its nodes have"
     ∷ text "bytes stand behind the sheet"
     ∷ text "the probe's parent is 0, the probe itself, or no node of the yard"
-    ∷ text "the probe has no packet, or more than 15"
+    ∷ text "the probe has more than 15 packets"
     ∷ text "the walk from the probe to its parents never reaches the gateway"
     ∷ text "the pair does not name two nodes of the yard, the smaller first"
     ∷ text "the pair is not above the one before it"

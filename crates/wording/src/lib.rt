@@ -41,7 +41,7 @@ fn put_of_node(number: u8, out: &mut [u8], at: usize) -> usize
             out,
             at,
         ),
-        5 => lines::put_words(b"the probe has no packet, or more than 15", out, at),
+        5 => lines::put_words(b"the probe has more than 15 packets", out, at),
         6 => lines::put_words(
             b"the walk from the probe to its parents never reaches the gateway",
             out,

@@ -54,7 +54,7 @@ returns : tie.Need-returns Inv-loop μ-loop
 returns c =
     let done = c .before .loop in
     let full : done .k ≡ c .before .before .args .p = omega arith in
-    rw full at (done .inv .1)
+    (rw full at (done .inv .1), rw full at (done .inv .2))
 
 pub branch-spec : {M : Type 1} → statement M
 branch-spec =

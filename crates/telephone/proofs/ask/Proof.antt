@@ -35,8 +35,8 @@ read-requires c κs = search needs
 all-packets-requires : tie.Need-all-packets-requires
 all-packets-requires c κs = search needs
 
-heaviest-requires : tie.Need-heaviest-requires
-heaviest-requires c κs = search needs
+slowest-requires : tie.Need-slowest-requires
+slowest-requires c κs = search needs
 
 at-most-requires : tie.Need-at-most-requires
 at-most-requires c κs = search needs
@@ -56,7 +56,7 @@ returns-2 c =
     let passed = c .before .before .before .before .before .before .before .if1 .left in
     let tree = c .before .before .before .before .before .before .read in
     ask-planned (start .args .sheet .now) blank long (by .result) (by .ensures .0) passed (tree .result) (tree .ensures) _ _ _
-    (c .before .before .all-packets .ensures) (c .before .heaviest .ensures) (c .at-most .ensures)
+    (c .before .before .all-packets .ensures) (c .before .slowest .ensures) (c .at-most .ensures)
 
 pub ask-spec : {M : Type 1} → statement M
 ask-spec =
@@ -67,7 +67,7 @@ ask-spec =
     returns
     read-requires
     all-packets-requires
-    heaviest-requires
+    slowest-requires
     at-most-requires
     cast-most
     returns-2)

@@ -9,7 +9,7 @@ use Rattle.telephone.proofs.at_most.Tie as tie
 mul-product : tie.Need-mul-product
 mul-product c =
     let few : c .args .colours ≤ 255 = omega arith in
-    let many : c .args .heaviest ≤ 65535 = omega arith in
+    let many : c .args .slowest ≤ 65535 = omega arith in
     record { fits = omega (arith, mul-le-mul few many) }
 
 returns : tie.Need-returns

@@ -1,4 +1,4 @@
--- `branch::heaviest` meets its contract. The invariant: so far it is the most over the first k tops; one that is no byte has an empty branch.
+-- `branch::most_weight` meets its contract. The invariant: so far it is the most over the first k tops; one that is no byte weighs nothing.
 -- The measure is what is left of p.
 use mathlib.Core.Path.{_≡_, refl, _∙_}
 use mathlib.Core.Logic.{⊎-elim}
@@ -7,28 +7,28 @@ use lib.ListN.{length, getD}
 use mir.Val.{Fits}
 use mir.Syntax.{w8}
 use Rattle.meaning.specs.Words.{places, most}
-use Rattle.meaning.specs.Yard.{branchPackets}
+use Rattle.branch.specs.Weight.{weightOf}
 use Rattle.branch.proofs.Walking.{most-next, most-past}
 use native.Mathlib.Omega.{arith}
 use borrow.Author.Needs.{needs}
-use Rattle.branch.proofs.heaviest.Statement.{statement}
-use Rattle.branch.proofs.heaviest.Tie as tie
+use Rattle.branch.proofs.most_weight.Statement.{statement}
+use Rattle.branch.proofs.most_weight.Tie as tie
 
 abbrev Inv-loop : tie.InvT-loop
-Inv-loop p parents packets best₀ k₀ best k = (k ≤ p) × (best ≡ most k (λ i. branchPackets p (λ u. getD parents u 0) (λ v. getD packets v 0) (i + 2)))
+Inv-loop p lags parents packets best₀ k₀ best k = (k ≤ p) × (best ≡ most k (λ i. weightOf lags p (λ u. getD parents u 0) (λ v. getD packets v 0) (i + 2)))
 
 abbrev μ-loop : tie.MeasureT-loop
-μ-loop p parents packets best₀ k₀ best k = p - k
+μ-loop p lags parents packets best₀ k₀ best k = p - k
 
 loop-holds : tie.Need-loop-holds Inv-loop μ-loop
 unfolding most
 loop-holds c = (omega arith, refl)
 
-add-t12 : tie.Need-add-t12 Inv-loop μ-loop
-add-t12 c = search needs
+add-t13 : tie.Need-add-t13 Inv-loop μ-loop
+add-t13 c = search needs
 
-branch-requires : tie.Need-branch-requires Inv-loop μ-loop
-branch-requires c κs = search needs
+weight-requires : tie.Need-weight-requires Inv-loop μ-loop
+weight-requires c κs = search needs
 
 larger-requires : tie.Need-larger-requires Inv-loop μ-loop
 larger-requires c κs = search needs
@@ -46,7 +46,7 @@ loop-again c =
     let long : length (a .t3) ≡ places = search needs in (
       omega arith,
       ⊎-elim (λ w. most-next (turn .k) _ _ _ _ (turn .inv .1) (w .3 .ensures) (w .5 ∙ w .4 .ensures))
-          (λ w. w .1 ∙ most-past (a .t2) (a .t3) long (a .p) (λ v. let byte : Fits w8 (getD (a .t2) v 0) = search needs in byte .fits) (turn .k) _ (w .0 .left) (turn .inv .1))
+          (λ w. w .1 ∙ most-past (a .t2) (a .t3) long (a .p) (λ v. let byte : Fits w8 (getD (a .t2) v 0) = search needs in byte .fits) (a .lags) (turn .k) _ (w .0 .left) (turn .inv .1))
           (c .if1 .came),
     )
 
@@ -56,15 +56,15 @@ returns c =
     let full : done .k ≡ c .before .before .args .p = omega arith in
     rw full at (done .inv .1)
 
-pub heaviest-spec : {M : Type 1} → statement M
-heaviest-spec =
+pub most-weight-spec : {M : Type 1} → statement M
+most-weight-spec =
     tie.close
     (tie.spec
     Inv-loop
     μ-loop
     loop-holds
-    add-t12
-    branch-requires
+    add-t13
+    weight-requires
     larger-requires
     add-k
     loop-less

@@ -1,0 +1,2 @@
+-- Definitions of what is found on the way.
+pub mod Weight
