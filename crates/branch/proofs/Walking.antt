@@ -6,13 +6,13 @@ use mathlib.Core.Logic.{⊎-elim}
 use Prim.Native.Nat.{ℕ, zero, suc, _+_, _-_, _≤_, _<_, max}
 use native.Mathlib.Nat.{add-zero, mul-zero, max-eq-left}
 use native.Mathlib.Omega.{arith}
-use borrow.Author.Tests.{eq-eqb, ne-eqb}
+use borrow.Author.Tests.{ne-eqb}
 use lib.Dec.{eqb}
 use lib.ListN.{length, getD, List·getD-eq-default}
 use Rattle.meaning.specs.Yard.{reaches, lagOn, branchPackets, branchLag}
 use Rattle.meaning.specs.Words.{places, sum, most}
 use Rattle.laws.proofs.Turns.{same-or-other, sum-one, sum-same, sum-constant, most-one}
-use Rattle.laws.proofs.Walk.{reaches-on}
+use Rattle.laws.proofs.Walk.{reaches-on, lag-here, lag-on}
 use Rattle.laws.proofs.Levels.{most-holds, most-within}
 use Rattle.branch.specs.Weight.{weightOf}
 
@@ -31,12 +31,6 @@ module _ (parent : ℕ → ℕ) (top : ℕ) where
       ap (reaches parent top (left - 1)) at ∙ sym (reaches-on parent top (left - 1) v ne) ∙ ap (λ (n : ℕ). reaches parent top n v) more ∙ e
 
   module _ (packets : ℕ → ℕ) where
-    -- at the top nothing more is added
-    pub lag-here : (left lag v : ℕ) → v ≡ top → lagOn parent packets top left lag v ≡ lag
-    unfolding lagOn
-    lag-here zero lag v e = refl
-    lag-here (suc left) lag v e = rw (eq-eqb v top e)
-
     -- with no hop left the lag is what it is
     pub lag-last : (left lag v whole : ℕ) → left ≤ 0 → lagOn parent packets top left lag v ≡ whole → lag ≡ whole
     unfolding lagOn
@@ -44,16 +38,12 @@ module _ (parent : ℕ → ℕ) (top : ℕ) where
         let none : left ≡ 0 = omega arith in
         ap (λ (n : ℕ). lagOn parent packets top n lag v) (sym none) ∙ e
 
-    lag-step : (left lag v : ℕ) → (v ≡ top → ⊥) → lagOn parent packets top (suc left) lag v ≡ lagOn parent packets top left (lag + 1 - packets (parent v)) (parent v)
-    unfolding lagOn
-    lag-step left lag v ne = rw (ne-eqb v top ne)
-
     -- a hop adds one, and the node that it comes to takes its packets away
     pub lag-next : (left lag v u taken next whole : ℕ) → 0 < left → (v ≡ top → ⊥) → u ≡ parent v → taken ≡ packets u → next ≡ lag + 1 - taken
         → lagOn parent packets top left lag v ≡ whole → lagOn parent packets top (left - 1) next u ≡ whole
     lag-next left lag v u taken next whole h ne at t n e =
         let more : suc (left - 1) ≡ left = omega arith in
-        ap₂ (lagOn parent packets top (left - 1)) (n ∙ ap (λ (x : ℕ). lag + 1 - x) (t ∙ ap packets at)) at ∙ sym (lag-step (left - 1) lag v ne) ∙ ap (λ (n : ℕ). lagOn parent packets top n lag v) more ∙ e
+        ap₂ (lagOn parent packets top (left - 1)) (n ∙ ap (λ (x : ℕ). lag + 1 - x) (t ∙ ap packets at)) at ∙ sym (lag-on parent packets top (left - 1) lag v ne) ∙ ap (λ (n : ℕ). lagOn parent packets top n lag v) more ∙ e
 
 -- the most so far and one more
 pub most-next : (i : ℕ) (f : ℕ → ℕ) (a b c : ℕ) → a ≡ most i f → b ≡ f i → c ≡ max a b → c ≡ most (i + 1) f
@@ -90,7 +80,7 @@ module _ (parent packets : ℕ → ℕ) (top : ℕ) where
   lag-alike (suc hops) u v nu nv e = on u nu ∙ ap (λ (w : ℕ). lagFrom hops (0 + 1 - packets w) w) e ∙ sym (on v nv)
     where
       on : (v : ℕ) → (v ≡ top → ⊥) → lagFrom (suc hops) 0 v ≡ lagFrom hops (0 + 1 - packets (parent v)) (parent v)
-      on v ne = ap₂ (λ (b : Bool) (x : ℕ). cond b x 0) (reaches-on parent top hops v ne) (lag-step parent top packets hops 0 v ne)
+      on v ne = ap₂ (λ (b : Bool) (x : ℕ). cond b x 0) (reaches-on parent top hops v ne) (lag-on parent packets top hops 0 v ne)
 
 module _ (parents packets : List ℕ) (long : length parents ≡ places) (p top : ℕ) (byte : top < 256) where
   abbrev lagBy : ℕ → ℕ
@@ -137,7 +127,7 @@ module _ (parents packets : List ℕ) (long : length packets ≡ places) (p : �
         sum-same p _ (λ _. 0) (λ k _. brings-never (k + 2) _ (λ e. past-end packets long (k + 2) (omega arith))) ∙ sum-constant p 0 ∙ mul-zero p
 
     no-lag : branchLag p parent packetsOf top ≤ 0
-    no-lag = most-within p _ 0 (λ k _. omega (arith, brings-never (k + 2) _ (lag-here parent top packetsOf p 0 (k + 2))))
+    no-lag = most-within p _ 0 (λ k _. omega (arith, brings-never (k + 2) _ (lag-here parent packetsOf top p 0 (k + 2))))
 
     weightless : (lags : Bool) → weightOf lags p parent packetsOf top ≡ 0
     weightless true = omega (arith, no-packets, no-lag)

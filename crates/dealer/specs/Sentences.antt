@@ -1,4 +1,4 @@
--- What is said on the telephone: three sentences, each with its slots and, where a slot's length is known, with its minutes and seconds.
+-- RULES, "The answers in words": what is said on the telephone, three sentences, each with its slots and, where a slot's length is known, with its minutes and seconds.
 use mathlib.Core.Bool.{cond}
 use mathlib.Core.List.{[], _++_}
 use Prim.Native.Nat.{ℕ, _/_, _%_}

@@ -1,4 +1,4 @@
--- How long a slot is, as a word says it, and how long so many slots take.
+-- RULES, "The answers in words": how long a slot is, as a word says it, and how long so many slots take.
 use mathlib.Core.Bool.{Bool, false, cond, not, _&&_, _||_}
 use mathlib.Core.List.{[], _∷_}
 use Prim.Native.Nat.{ℕ, _+_, _-_, _*_, _/_, min}

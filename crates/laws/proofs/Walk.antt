@@ -9,7 +9,7 @@ use native.Mathlib.Omega.{arith}
 use lib.Dec.{eqb, leb}
 use borrow.Author.Tests.{leb-true, le-leb, lt-leb, eqb-true, eqb-false, eq-eqb, ne-eqb}
 use Rattle.meaning.specs.Words.{sum, count}
-use Rattle.meaning.specs.Yard.{isProbe, reaches, climb}
+use Rattle.meaning.specs.Yard.{isProbe, reaches, climb, lagOn}
 use Rattle.laws.proofs.Turns.{below-or-last, sum-same, sum-constant}
 
 -- a test that is one and the other is absurd
@@ -68,6 +68,17 @@ module _ (parent : ℕ → ℕ) where
   pub climb-on : (left v : ℕ) → (v ≡ 1 → ⊥) → climb parent (suc left) v ≡ suc (climb parent left (parent v))
   unfolding climb
   climb-on left v ne = rw (ne-eqb v 1 ne)
+
+  -- the lag of a walk: at its end it is what it is; elsewhere a hop adds one, less the packets of the node that it comes to
+  pub lag-here : (packets : ℕ → ℕ) (top left lag v : ℕ) → v ≡ top → lagOn parent packets top left lag v ≡ lag
+  unfolding lagOn
+  lag-here packets top zero lag v e = refl
+  lag-here packets top (suc left) lag v e = rw (eq-eqb v top e)
+
+  pub lag-on : (packets : ℕ → ℕ) (top left lag v : ℕ) → (v ≡ top → ⊥)
+      → lagOn parent packets top (suc left) lag v ≡ lagOn parent packets top left (lag + 1 - packets (parent v)) (parent v)
+  unfolding lagOn
+  lag-on packets top left lag v ne = rw (ne-eqb v top ne)
 
   -- with no hop left it has arrived only at its end
   pub reaches-none : (top v : ℕ) → reaches parent top 0 v ≡ true → v ≡ top

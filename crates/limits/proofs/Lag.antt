@@ -5,27 +5,16 @@ use mathlib.Core.Bool.{Bool, true, false, cond}
 use mathlib.Core.Logic.{_≢_, ⊎-elim}
 use Prim.Native.Nat.{ℕ, zero, suc, _+_, _-_, _≤_, _<_}
 use native.Mathlib.Omega.{arith}
-use borrow.Author.Tests.{eq-eqb, ne-eqb}
 use Rattle.meaning.specs.Words.{mostProbes}
 use Rattle.meaning.specs.Yard.{isProbe, reaches, climb, branchPackets, heaviestOf, levelsBelow, longestOf, lagOn, branchLag, slowestOf}
 use Rattle.laws.proofs.Turns.{same-or-other}
-use Rattle.laws.proofs.Walk.{not-both, probe-yes, probe-least, probe-most, reaches-here, reaches-on, reaches-none}
+use Rattle.laws.proofs.Walk.{not-both, probe-yes, probe-least, probe-most, reaches-here, reaches-on, reaches-none, lag-here, lag-on}
 use Rattle.laws.proofs.Slots.{true-or-false}
 use Rattle.laws.proofs.Levels.{most-holds, most-within}
 use Rattle.limits.proofs.Sums.{probe-at}
 use Rattle.limits.proofs.Branch.{Rooted, gone, reaches-same, level-up, falls}
 
-module _ (parent packets : ℕ → ℕ) where
-  -- at the top the lag is what it is; elsewhere the walk goes on
-  lag-here : (top left lag v : ℕ) → v ≡ top → lagOn parent packets top left lag v ≡ lag
-  unfolding lagOn
-  lag-here top zero lag v e = refl
-  lag-here top (suc left) lag v e = rw (eq-eqb v top e)
-
-  lag-on : (top left lag v : ℕ) → v ≢ top → lagOn parent packets top (suc left) lag v ≡ lagOn parent packets top left (lag + 1 - packets (parent v)) (parent v)
-  unfolding lagOn
-  lag-on top left lag v ne = rw (ne-eqb v top ne)
-
+module _ (parent : ℕ → ℕ) where
   -- a walk that comes to c comes one hop later to the parent of c
   further : (c left u : ℕ) → reaches parent c left u ≡ true → reaches parent (parent c) (suc left) u ≡ true
   further c zero u r =
@@ -98,7 +87,7 @@ module _ (p : ℕ) (parent packets : ℕ → ℕ) (rooted : Rooted p parent) whe
     walk-lags u hu r =
         let up = rooted .inside c h in
         let comes : reaches parent (parent c) p u ≡ true =
-        sym (reaches-same p parent rooted (parent c) p (suc p) u (up .0) (omega arith) (rooted .arrives u hu)) ∙ further parent packets c p u r in
+        sym (reaches-same p parent rooted (parent c) p (suc p) u (up .0) (omega arith) (rooted .arrives u hu)) ∙ further parent c p u r in
         let its : cond (reaches parent (parent c) p u) (lagOn parent packets (parent c) p 0 u) 0 ≡ lagOn parent packets (parent c) p 0 u =
         ap (λ (b : Bool). cond b (lagOn parent packets (parent c) p 0 u) 0) comes in
         omega (

@@ -19,7 +19,7 @@ fn is_dash(path: &[u8]) -> bool {
 }
 
 // Whether argument i is such a name.
-pub fn is_dash_argument(i: usize) -> bool {
+pub(crate) fn is_dash_argument(i: usize) -> bool {
     let mut word = [0u8; 2];
     let n = os::arg(i, &mut word);
     is_dash(&word[..n])
@@ -42,7 +42,7 @@ fn open_read(path: &[u8]) -> i32 {
 }
 
 // Reads the file that argument i names into buf; answers how many bytes, or -1 after saying that it cannot be read.
-pub fn read_file(to: i32, i: usize, buf: &mut [u8]) -> isize {
+pub(crate) fn read_file(to: i32, i: usize, buf: &mut [u8]) -> isize {
     let mut path = io::buffer();
     let n = os::arg(i, &mut path);
     if os::errno() != 0 {
@@ -155,7 +155,7 @@ fn output() -> u8 {
 }
 
 // Writes a plan to the file that argument i names, which is never the sheet; answers whether it could, after saying so where not.
-pub fn write_file(to: i32, i: usize, plan: &[u8]) -> bool {
+pub(crate) fn write_file(to: i32, i: usize, plan: &[u8]) -> bool {
     let mut path = io::buffer();
     let n = os::arg(i, &mut path);
     if os::errno() != 0 {

@@ -4,24 +4,24 @@ use libc::STDOUT_FILENO;
 use meaning::Outcome;
 
 // The exit status: answered, refused, or not answered at all.
-pub const ANSWERED: u8 = b'0';
+pub(crate) const ANSWERED: u8 = b'0';
 
-pub const REFUSED: u8 = b'1';
+pub(crate) const REFUSED: u8 = b'1';
 
-pub const FAILED: u8 = b'2';
+pub(crate) const FAILED: u8 = b'2';
 
 // Here the starting script listens for the exit status; no answer goes there.
 const STATUS_FILENO: i32 = 3;
 
 // As many bytes as were answered; never more than buf has, which the answers' contracts give as well.
-pub fn within(n: usize, buf: &[u8]) -> usize
+pub(crate) fn within(n: usize, buf: &[u8]) -> usize
     ensures { λ r. ⌜ Counts r (now (buf .entry)) ⌝ }
 {
     if n < buf.len() { n } else { buf.len() }
 }
 
 // Writes a text at once; answers the status, after saying so where it could not be written.
-pub fn say(to: i32, text: &[u8], status: u8) -> u8 {
+pub(crate) fn say(to: i32, text: &[u8], status: u8) -> u8 {
     if io::write_all(to, text) {
         return status;
     }
@@ -30,7 +30,7 @@ pub fn say(to: i32, text: &[u8], status: u8) -> u8 {
 }
 
 // Says an answer about a sheet or a plan.
-pub fn say_answer(to: i32, text: &[u8], outcome: Outcome) -> u8 {
+pub(crate) fn say_answer(to: i32, text: &[u8], outcome: Outcome) -> u8 {
     if outcome.number == 0 {
         return say(to, text, ANSWERED);
     }
@@ -64,7 +64,7 @@ fn shown(path: &[u8], name: &mut [u8]) -> usize
 }
 
 // Says a word and a name, on one line.
-pub fn say_named(to: i32, word: &[u8], path: &[u8]) -> u8 {
+pub(crate) fn say_named(to: i32, word: &[u8], path: &[u8]) -> u8 {
     let mut name = io::buffer();
     let n = shown(path, &mut name);
     let mut line = [0u8; 4200];
@@ -76,23 +76,30 @@ pub fn say_named(to: i32, word: &[u8], path: &[u8]) -> u8 {
 }
 
 // Says which file failed and, on standard error, why.
-pub fn say_failed(to: i32, word: &[u8], path: &[u8]) -> u8 {
+pub(crate) fn say_failed(to: i32, word: &[u8], path: &[u8]) -> u8 {
     let mut name = io::buffer();
     let n = shown(path, &mut name);
     os::fail(&name[..n]);
     say_named(to, word, path)
 }
 
-pub fn say_usage(to: i32, status: u8) -> u8 {
+pub(crate) fn say_usage(to: i32, status: u8) -> u8 {
     say(
         to,
-        b"usage: yard ask SHEET [MILLISECONDS]      how long a reading takes; of slots of 1 to 60000 ms also in minutes\n       yard list SHEET                    the plan by probe, as text\n       yard probe SHEET PLAN              the plan by probe, into the file PLAN\n       yard level SHEET PLAN              the plan by level, into the file PLAN\n       yard judge SHEET PLAN              whether the plan passes\n       yard choose SHEET PLAN PLAN [OUT]  the shorter of two plans that pass, also into the file OUT\n       yard --help | --version            these lines, or the version\nOne of the files may be -: standard input or, for a plan that is made, standard output.\n",
+        b"usage: yard ask SHEET [MILLISECONDS]      how long a reading takes; of slots of 1 to 60000 ms also in minutes\n\
+            \x20      yard list SHEET                    the plan by probe, as text\n\
+            \x20      yard probe SHEET PLAN              the plan by probe, into the file PLAN\n\
+            \x20      yard level SHEET PLAN              the plan by level, into the file PLAN\n\
+            \x20      yard judge SHEET PLAN              whether the plan passes\n\
+            \x20      yard choose SHEET PLAN PLAN [OUT]  the shorter of two plans that pass, also into the file OUT\n\
+            \x20      yard --help | --version            these lines, or the version\n\
+            One of the files may be -: standard input or, for a plan that is made, standard output.\n",
         status,
     )
 }
 
 // Tells the starting script the exit status, once standard output is closed and no answer can be lost any more.
-pub fn tell(status: u8) {
+pub(crate) fn tell(status: u8) {
     if libc::close(STDOUT_FILENO) != 0 && status != FAILED {
         os::fail(b"standard output");
         io::write_all(STATUS_FILENO, &[FAILED]);

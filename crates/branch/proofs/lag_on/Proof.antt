@@ -4,7 +4,8 @@ use mathlib.Core.Path.{_≡_, refl, sym, _∙_}
 use Prim.Native.Nat.{_+_, _≤_}
 use lib.ListN.{getD}
 use Rattle.meaning.specs.Yard.{lagOn}
-use Rattle.branch.proofs.Walking.{lag-here, lag-last, lag-next}
+use Rattle.laws.proofs.Walk.{lag-here}
+use Rattle.branch.proofs.Walking.{lag-last, lag-next}
 use native.Mathlib.Omega.{arith}
 use borrow.Author.Needs.{needs}
 use Rattle.branch.proofs.lag_on.Statement.{statement}
