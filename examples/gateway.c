@@ -1,8 +1,10 @@
-// How a gateway uses the library: it asks how long a reading takes, plans the sheet in a file both ways, sends the shorter plan slot by slot, has it judged, and logs the listing. gateway SHEET
+// How a gateway uses the library: it asks how long a reading takes, plans the sheet in a file both ways, sends the shorter plan slot by slot, has it judged,
+// logs the listing, and writes the conflicts for a colouring program. gateway SHEET
 #include "yard.h"
+#include <inttypes.h>
 #include <stdio.h>
 
-static uint8_t sheet[YARD_SHEET_BYTES], by_probe[YARD_PLAN_BYTES], by_level[YARD_PLAN_BYTES], text[YARD_TEXT_BYTES];
+static uint8_t sheet[YARD_SHEET_BYTES], by_probe[YARD_PLAN_BYTES], by_level[YARD_PLAN_BYTES], text[YARD_TEXT_BYTES], graph[YARD_GRAPH_BYTES];
 
 static void tell(const char *way, yard_planned planned) {
   printf("%s: %d slots, %d colours, %zu bytes\n", way, planned.slots, planned.colours, planned.bytes);
@@ -21,6 +23,15 @@ static void send_all(const uint8_t *plan, int slots) {
 static void judge(const char *what, size_t length, const uint8_t *plan, size_t bytes) {
   yard_verdict verdict = yard_judge(sheet, length, plan, bytes);
   printf("%s: number %d at %d, %d slots\n", what, verdict.number, verdict.place, verdict.slots);
+}
+
+// A graph's text read into rows: vertex 1 is probe 2, and stands in row 1 and bit 1 of each.
+static void read_graph(const char *what, size_t bytes) {
+  uint64_t rows[64];
+  yard_graph read = yard_graph_read(graph, bytes, rows);
+  int conflicts = 0;
+  for (int v = 1; v <= read.vertices; v++) conflicts += rows[1] >> v & 1;
+  printf("%s: number %d at %" PRIu64 ", %d vertices, %d conflicts of probe 2\n", what, read.number, read.place, read.vertices, conflicts);
 }
 
 int main(int argc, char **argv) {
@@ -45,5 +56,10 @@ int main(int argc, char **argv) {
   judge("judged", length, plan, planned.bytes);
   judge("judged without its last byte", length, plan, planned.bytes - 1);
   fwrite(text, 1, yard_list(sheet, length, text, YARD_TEXT_BYTES), stdout); // always the plan by probe
+
+  yard_drawn drawn = yard_graph_write(sheet, length, graph, YARD_GRAPH_BYTES);
+  fwrite(graph, 1, drawn.bytes, stdout);
+  read_graph("read", drawn.bytes);
+  read_graph("read without its last byte", drawn.bytes - 1);
   return 0;
 }

@@ -1,7 +1,7 @@
-// The yard planner for gateways: telephone, planners, judge, chooser and lister over bytes in memory.
+// The yard planner for gateways: telephone, planners, judge, chooser, lister and the writer and reader of graphs, over bytes in memory.
 //
 // Every function takes any bytes: the caller tests nothing first, nothing is kept between calls, and nothing is allocated. Every answer is a plan, a
-// verdict or a numbered refusal; docs/NUMBERS.md has the numbers in plain words, docs/CONTRACTS.md says exactly what each function answers.
+// verdict, a text, a table or a numbered refusal; docs/NUMBERS.md has the numbers in plain words, docs/CONTRACTS.md says exactly what each function answers.
 // A probe of a sheet has 0 to 15 packets (number 5 is given above 15); one with 0 is a relay, which only passes on.
 // A caller need not read more of a file than YARD_SHEET_BYTES of a sheet and YARD_JUDGED_BYTES of a plan: more changes no answer.
 //
@@ -26,6 +26,7 @@ enum {
   YARD_PLAN_BYTES = 60482,      // room for any plan of ours
   YARD_JUDGED_BYTES = 96032,    // how much of a plan, from anybody, decides its verdict
   YARD_TEXT_BYTES = 302455,     // room for any listing
+  YARD_GRAPH_BYTES = 15081,     // room for any graph's text that is written
   YARD_LIST_STACK = 112 * 1024, // stack that a call of yard_list or yard_ask wants
   YARD_STACK = 48 * 1024        // stack that a call of any other function wants
 };
@@ -78,6 +79,31 @@ uint8_t yard_choose(const uint8_t *sheet, size_t sheet_length, const uint8_t *fi
 // Lists a sheet: the plan by probe as text, or the line `refused N P`. The caller provides YARD_TEXT_BYTES for the text, whatever the sheet, and gets
 // the text's length; the bytes behind it stay, and no zero byte ends it. A shorter buffer is left as it was, and the answer is 0, which no text's length is.
 size_t yard_list(const uint8_t *sheet, size_t sheet_length, uint8_t *text, size_t text_length);
+
+// What the writer of a graph answers. Written: number and place are 0, and the text has so many bytes.
+// Refused: number is 1 to 8 or 21, place says where, and bytes is 0.
+typedef struct {
+  uint8_t number;
+  uint16_t place;
+  size_t bytes;
+} yard_drawn;
+
+// What the reader of a graph answers. Read: number and place are 0, and the graph has so many vertices.
+// Refused: number is 18, 19 or 20, place is the faulty line, from 1, or 0, and vertices is 0. A text may have more than 65,535 lines.
+typedef struct {
+  uint8_t number;
+  uint64_t place;
+  uint8_t vertices;
+} yard_graph;
+
+// Writes a sheet's conflicts as a graph in the DIMACS format: vertex v is probe v + 1. The caller provides a sheet and a buffer that is as long as the
+// text; YARD_GRAPH_BYTES are enough for any sheet. It gets the text in the first `bytes` bytes; the bytes behind it stay, and no zero byte ends it.
+// A refusal (21: the buffer is shorter than the text) leaves the whole buffer as it was.
+yard_drawn yard_graph_write(const uint8_t *sheet, size_t sheet_length, uint8_t *text, size_t text_length);
+
+// Reads such a text, whole in memory, of any length and from anybody, into a table of one word a row: bit k of rows[j] is set just where the nodes j + 1 and k + 1 are
+// joined, so that vertex v has rows[v] and bit v; rows[0] and bit 0 are the gateway's, and stay 0. All 64 rows are written, 0 on a refusal, whatever they held.
+yard_graph yard_graph_read(const uint8_t *text, size_t text_length, uint64_t rows[64]);
 
 #ifdef __cplusplus
 }

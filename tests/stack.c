@@ -5,10 +5,11 @@
 #include <string.h>
 #include <ucontext.h>
 
-enum { BY_PROBE, BY_LEVEL, JUDGE, CHOOSE, LIST, ASK, FUNCTIONS, PAINT = 0xa5, LENT = 1 << 20, LAST_SLOT = 255, MOST_SLOTS = 65535 };
+enum { BY_PROBE, BY_LEVEL, JUDGE, CHOOSE, GRAPH_WRITE, GRAPH_READ, LIST, ASK, FUNCTIONS, PAINT = 0xa5, LENT = 1 << 20, LAST_SLOT = 255, MOST_SLOTS = 65535 };
 
-static uint8_t lent[LENT], sheet[YARD_SHEET_BYTES], plan[YARD_JUDGED_BYTES + 1], out[YARD_TEXT_BYTES];
-static size_t length, bytes, room, deepest[FUNCTIONS];
+static uint8_t lent[LENT], sheet[YARD_SHEET_BYTES], plan[YARD_JUDGED_BYTES + 1], out[YARD_TEXT_BYTES], text[YARD_GRAPH_BYTES];
+static uint64_t rows[64];
+static size_t length, bytes, room, text_bytes, deepest[FUNCTIONS];
 static ucontext_t here, there;
 static int function;
 
@@ -17,6 +18,8 @@ static void call(void) {
   if (function == BY_LEVEL) yard_by_level(sheet, length, out, room);
   if (function == JUDGE) yard_judge(sheet, length, plan, bytes);
   if (function == CHOOSE) yard_choose(sheet, length, plan, bytes, plan, bytes);
+  if (function == GRAPH_WRITE) yard_graph_write(sheet, length, out, room);
+  if (function == GRAPH_READ) yard_graph_read(text, text_bytes, rows);
   if (function == LIST) yard_list(sheet, length, out, room);
   if (function == ASK) yard_ask(sheet, length);
 }
@@ -48,10 +51,26 @@ static void plans(size_t own, size_t slots) {
   small_plan("\0\0", 2), small_plan("\0\1\1\1", 4), small_plan("\0\2\1\2\1\2", 6), small_plan("\0\1\2\2\3", 5);
 }
 
+static void read_text(size_t size) { text_bytes = size, measure(GRAPH_READ); }
+
+static void small_text(const char *its_bytes, int number) {
+  memcpy(text, its_bytes, strlen(its_bytes)), read_text(strlen(its_bytes));
+  if (yard_graph_read(text, text_bytes, rows).number != number) printf("the text %s is not answered %d\n", its_bytes, number), exit(1);
+}
+
+// The graph's text, cut off too, and small ones that are answered in each way.
+static void texts(size_t size) {
+  read_text(size), read_text(size - 1);
+  small_text("", 18), small_text("c\np edge 2 1\ne 2 1\n", 0), small_text("p edge 2 1\ne 1 1\n", 19), small_text("p edge 2 1\ne 1 64\n", 19),
+      small_text("p edge 2 100000000000000000000\n", 20);
+}
+
 // Every function on the sheet that stands there.
 static void sheet_done(void) {
   yard_planned own = yard_by_probe(sheet, length, plan, YARD_PLAN_BYTES);
-  for (room = 0; room <= YARD_TEXT_BYTES; room += YARD_TEXT_BYTES) measure(BY_PROBE), measure(BY_LEVEL), measure(LIST), measure(ASK);
+  for (room = 0; room <= YARD_TEXT_BYTES; room += YARD_TEXT_BYTES) measure(BY_PROBE), measure(BY_LEVEL), measure(LIST), measure(ASK), measure(GRAPH_WRITE);
+  yard_drawn drawn = yard_graph_write(sheet, length, text, YARD_GRAPH_BYTES);
+  if (drawn.number == 0) texts(drawn.bytes);
   if (own.number) judged(0);
   else plans(own.bytes, own.slots);
 }
@@ -91,8 +110,8 @@ int main(void) {
   sheets();
   size_t most = 0;
   for (int k = 0; k < LIST; k++) most = deepest[k] > most ? deepest[k] : most;
-  printf("stack used by probe %zu, by level %zu, to judge %zu, to choose %zu of %d bytes; to list %zu, to ask %zu of %d\n",
-    deepest[BY_PROBE], deepest[BY_LEVEL], deepest[JUDGE], deepest[CHOOSE], YARD_STACK, deepest[LIST], deepest[ASK], YARD_LIST_STACK);
+  printf("stack used by probe %zu, by level %zu, to judge %zu, to choose %zu, to write a graph %zu, to read one %zu of %d bytes; to list %zu, to ask %zu of %d\n", deepest[BY_PROBE],
+    deepest[BY_LEVEL], deepest[JUDGE], deepest[CHOOSE], deepest[GRAPH_WRITE], deepest[GRAPH_READ], YARD_STACK, deepest[LIST], deepest[ASK], YARD_LIST_STACK);
   int all = fits("YARD_STACK", most, YARD_STACK), list = fits("YARD_LIST_STACK", deepest[LIST] > deepest[ASK] ? deepest[LIST] : deepest[ASK], YARD_LIST_STACK);
   return all && list ? 0 : 1;
 }

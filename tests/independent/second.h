@@ -15,6 +15,14 @@ yard_told second_ask(const uint8_t *sheet, size_t length);
 // The lister's text, into a buffer of at least YARD_TEXT_BYTES bytes.
 size_t second_list(const uint8_t *sheet, size_t length, char *text);
 
+yard_drawn second_graph_write(const uint8_t *sheet, size_t length, uint8_t *text, size_t room);
+yard_graph second_graph_read(const uint8_t *text, size_t length, uint64_t rows[64]);
+
+// The conflicts of a sheet as yard_graph_read has them in rows, and the colours by probe, colours[v] for vertex v; both answer the number of probes, -1 where
+// the sheet is refused.
+int second_conflicts(const uint8_t *sheet, size_t length, uint64_t rows[64]);
+int second_colours(const uint8_t *sheet, size_t length, int colours[64]);
+
 // The room that a planner wants for a sheet, 0 where the sheet is refused.
 size_t second_room(const uint8_t *sheet, size_t length);
 

@@ -1,16 +1,21 @@
-// Compares the proved library with the second reading of the rules on random and damaged sheets and plans.
+// Compares the proved library with the second reading of the rules on random and damaged sheets, plans and graphs' texts.
 //   yards SEED YARDS PLANS                 compares; a case that differs is kept in files, and printed, so that it can be run again
 //   yards show ROOM SHEET [PLAN [PLAN]]    prints what both sides answer for the sheet and the plans in these files, with a buffer of ROOM bytes
+//   yards read TEXT                        prints what both sides answer for the graph's text in this file
 #include "second.h"
 #include <stdio.h>
 #include <stdlib.h>
 #include <string.h>
 
-enum { NODES = 65, MOST_SHEET = 5000, MOST_PLAN = 300000, FILL = 0xee, ENOUGH = 200 };
+enum { NODES = 65, MOST_SHEET = 5000, MOST_PLAN = 300000, MOST_TEXT = 200000, MOST_LINES = 2100, MOST_LINE = 128, FILL = 0xee, ENOUGH = 200, NUMBERS = 22 };
+
+// Where a graph's text is refused: nowhere in it, in its first line, between, in its last, or behind line 65,535.
+enum { NOWHERE, FIRST, BETWEEN, LAST, FAR, PLACES };
 
 static unsigned char sheet[MOST_SHEET], got[YARD_TEXT_BYTES + 8], want[YARD_TEXT_BYTES + 8], plan[2][MOST_PLAN], own[YARD_PLAN_BYTES];
 static unsigned char sheet_lent[MOST_SHEET], plan_lent[2][MOST_PLAN];
-static long sheets, yards, relayed, plannings, plans, listings, asked, numbers[18];
+static unsigned char text[MOST_TEXT], text_lent[MOST_TEXT];
+static long sheets, yards, relayed, plannings, plans, listings, asked, drawings, texts, numbers[NUMBERS], placed[NUMBERS][PLACES];
 
 // ---- chance
 
@@ -37,6 +42,13 @@ static void differ(const char *what, size_t len, size_t room, size_t first, size
   printf("DIFFERENT: %s, buffer of %zu bytes\n", what, room);
   keep("sheet", sheet, len), keep("first", plan[0], first), keep("second", plan[1], second);
   printf("again: tests/independent/run show %zu target/different.sheet target/different.first target/different.second\n", room);
+  exit(1);
+}
+
+static void differ_text(const char *what, size_t size) {
+  printf("DIFFERENT: %s\n", what);
+  keep("text", text, size);
+  printf("again: tests/independent/run read target/different.text\n");
   exit(1);
 }
 
@@ -104,6 +116,38 @@ static void compare_listing(size_t len, size_t room) {
   listings++;
   unchanged(len, 0, 0);
   if (a != b || memcmp(got, want, sizeof got)) differ("lister", len, room, 0, 0);
+}
+
+// The room is filled before, and the bytes behind it too, so that every byte that is written is seen.
+static size_t compare_drawing(size_t len, size_t room) {
+  lend(len, 0, 0);
+  memset(got, FILL, room + 8), memset(want, FILL, room + 8);
+  yard_drawn a = yard_graph_write(sheet, len, got, room), b = second_graph_write(sheet, len, want, room);
+  drawings++, numbers[b.number]++;
+  unchanged(len, 0, 0);
+  if (a.number != b.number || a.place != b.place || a.bytes != b.bytes || memcmp(got, want, room + 8)) differ("writer of graphs", len, room, 0, 0);
+  return b.bytes;
+}
+
+static int kind_of(uint64_t place, size_t size) {
+  uint64_t all = size > 0 && text[size - 1] != '\n';
+  for (size_t k = 0; k < size; k++) all += text[k] == '\n';
+  return place == 0 ? NOWHERE : place > 65535 ? FAR : place == 1 ? FIRST : place < all ? BETWEEN : LAST;
+}
+
+// The rows hold random bits before, and one more stands behind them; they are left in rows for who asks.
+static uint64_t rows[65];
+
+static yard_graph compare_reading(size_t size) {
+  uint64_t other[65];
+  for (int k = 0; k < 64; k++) rows[k] = (uint64_t)rnd(UINT32_MAX) << 33 ^ rnd(UINT32_MAX), other[k] = ~rows[k];
+  rows[64] = other[64] = state;
+  memcpy(text_lent, text, size);
+  yard_graph a = yard_graph_read(text, size, rows), b = second_graph_read(text, size, other);
+  texts++, numbers[b.number]++, placed[b.number][kind_of(b.place, size)]++;
+  if (memcmp(text_lent, text, size)) differ_text("a text was written to", size);
+  if (a.number != b.number || a.place != b.place || a.vertices != b.vertices || memcmp(rows, other, sizeof rows)) differ_text("reader of graphs", size);
+  return b;
 }
 
 // ---- random and damaged sheets
@@ -236,6 +280,284 @@ static size_t some_plan(unsigned char *to, size_t size) {
   return how < 7 ? damage(to, size, MOST_PLAN - 140000) : size;
 }
 
+// ---- good and damaged texts of graphs; what the rules say of each is told by how it is made, so that the second reading is tried too
+
+static uint64_t table[64];
+static int vertices, lines;
+static char line[MOST_LINES][MOST_LINE]; // \1 stands for a zero byte
+
+static void expect(const char *what, size_t size, int number, uint64_t place) {
+  static const uint64_t none[64];
+  yard_graph r = compare_reading(size);
+  if (r.number != number || r.place != place || r.vertices != (number ? 0 : vertices) || memcmp(rows, number ? none : table, sizeof table)) differ_text(what, size);
+}
+
+static void split(size_t size) {
+  size_t at = 0;
+  for (lines = 0; at < size; lines++) {
+    int many = 0;
+    while (text[at] != '\n') line[lines][many++] = (char)text[at++];
+    line[lines][many] = 0, at++;
+  }
+}
+
+static size_t join(void) {
+  size_t size = 0;
+  for (int k = 0; k < lines; k++) {
+    for (const char *from = line[k]; *from; from++) text[size++] = *from == 1 ? 0 : (unsigned char)*from;
+    text[size++] = '\n';
+  }
+  return size;
+}
+
+static void put_line(int at, const char *words) {
+  memmove(line[at + 1], line[at], (size_t)(lines - at) * MOST_LINE);
+  snprintf(line[at], MOST_LINE, "%s", words), lines++;
+}
+
+// A line put in anywhere from index `first` on; its place, counted from 1.
+static uint64_t put_behind(int first, const char *words) {
+  int at = first + (int)rnd((uint32_t)(lines - first) + 1);
+  put_line(at, words);
+  return (uint64_t)at + 1;
+}
+
+static void put_byte(char *at, char byte) { memmove(at + 1, at, strlen(at) + 1), *at = byte; }
+
+static void edge_of(int k, int *a, int *b) {
+  if (sscanf(line[k], "e %d %d", a, b) != 2) printf("no edge: %s\n", line[k]), exit(1);
+}
+
+// An edge's line, either way round.
+static void say_edge(char *to, int a, int b) {
+  int turned = (int)rnd(2);
+  snprintf(to, MOST_LINE, "e %d %d", turned ? b : a, turned ? a : b);
+}
+
+// A number that is another one, though it would be the same in 8, 16, 32 or 64 bits; or one of twenty digits and more.
+static const char *beyond(unsigned v) {
+  static char said[48];
+  static const int bits[] = {8, 16, 32, 64};
+  unsigned __int128 all = ((unsigned __int128)1 << bits[rnd(4)]) + v;
+  int at = 47, digits = rnd(5) ? 0 : 20 + (int)rnd(20);
+  for (; digits > 0; digits--) said[--at] = (char)('0' + (digits == 1 ? 1 : 0) + (int)rnd(9));
+  if (at == 47)
+    for (; all > 0; all /= 10) said[--at] = (char)('0' + (int)(all % 10));
+  return said + at;
+}
+
+// A byte too many in front of a word or behind the line.
+static void stray_byte(void) {
+  static const char before[] = " \t\r\v0+-,\1", behind[] = " \t\r\v+-,x\1";
+  int k = (int)rnd((uint32_t)lines);
+  size_t many = strlen(line[k]), at = rnd((uint32_t)many + 1);
+  while (at > 0 && at < many && line[k][at - 1] != ' ') at--;
+  put_byte(line[k] + at, at < many ? before[rnd(9)] : behind[rnd(9)]);
+  expect("a byte too many", join(), 18, (uint64_t)k + 1);
+}
+
+// Something else in place of a space, or nothing.
+static void no_space(void) {
+  int k = (int)rnd((uint32_t)lines);
+  size_t at = rnd((uint32_t)strlen(line[k]));
+  while (line[k][at] != ' ') at = (at + 1) % strlen(line[k]);
+  if (rnd(3)) line[k][at] = "\t\r\1,"[rnd(4)];
+  else memmove(line[k] + at, line[k] + at + 1, strlen(line[k] + at));
+  expect("no space", join(), 18, (uint64_t)k + 1);
+}
+
+static void other_line(void) {
+  static const char *const others[] = {"", " ", "x", "n 1 1", "p", "e", "p edge", "p edge 3", "p edge 3 2 1", "p col 3 2", "P edge 3 2", "p edges 3 2", "pe 3 2", "e 1",
+    "e 1 2 3", "e 1 x", "e x 2", "E 1 2", "ee 1 2", "a 1 2", " c", "C", "\1", "\1c", "e 1 2x", "e -1 2", "e 01 2", "e 1 00", "e 1 2 c", "d", "g", "0"};
+  uint64_t place = put_behind(0, others[rnd(sizeof others / sizeof *others)]);
+  expect("another line", join(), 18, place);
+}
+
+static void comments(void) {
+  static const char *const said[] = {"c", "c ", "cc", "c a yard", "cp edge 1 1", "c e 1 1", "ce 1 1", "c\t\r\v", "c\1", "c 0000000000000000000000000000000000000000000000000000000000000000"};
+  for (uint32_t many = 1 + rnd(4); many > 0; many--) put_behind(0, said[rnd(sizeof said / sizeof *said)]);
+  expect("comments", join(), 0, 0);
+}
+
+static void unended(void) {
+  if (rnd(2)) put_line(lines, rnd(2) ? "c" : "e 0 0");
+  expect("an unended line", join() - 1, 18, (uint64_t)lines);
+}
+
+static void repeated(void) {
+  int a, b, k = lines > 1 ? 1 + (int)rnd((uint32_t)lines - 1) : 0;
+  if (k == 0) return;
+  char words[MOST_LINE];
+  edge_of(k, &a, &b), say_edge(words, a, b);
+  uint64_t place = put_behind(k + 1, words);
+  expect("an edge repeated", join(), 18, place);
+}
+
+// Edges in any order and either way round.
+static void shuffled(void) {
+  for (int k = 1; k < lines; k++) {
+    int a, b, c, d, other = 1 + (int)rnd((uint32_t)k);
+    edge_of(k, &a, &b), edge_of(other, &c, &d);
+    say_edge(line[k], c, d);
+    say_edge(line[other], a, b);
+  }
+  expect("edges in another order", join(), 0, 0);
+}
+
+// A loop, or an edge with a vertex out of range.
+static void astray(void) {
+  char words[MOST_LINE], out[MOST_LINE];
+  unsigned v = vertices ? 1 + rnd((uint32_t)vertices) : 1, how = rnd(5);
+  snprintf(out, sizeof out, "%u", how == 0 ? 0 : how == 1 ? (unsigned)vertices + 1 : how == 2 ? (unsigned)vertices + 1 + rnd(300) : v);
+  if (how == 3) snprintf(out, sizeof out, "%s", beyond(1 + rnd((uint32_t)vertices + 1)));
+  if (rnd(2)) snprintf(words, sizeof words, "e %u %.48s", v, out);
+  else snprintf(words, sizeof words, "e %.48s %u", out, v);
+  int early = rnd(4) == 0;
+  uint64_t place = early ? 1 : put_behind(1, words);
+  if (early) put_line(0, words);
+  expect("an edge astray, or before the p line", join(), early ? 18 : 19, place);
+}
+
+static void second_problem(void) {
+  char words[MOST_LINE];
+  snprintf(words, sizeof words, "p edge %d %d", rnd(2) ? vertices : (int)rnd(66), (int)rnd(3));
+  uint64_t place = put_behind(1, rnd(2) ? words : line[0]);
+  expect("a second p line", join(), 18, place);
+}
+
+static void no_problem(void) {
+  int comment = (int)rnd(2), edges = lines - 1;
+  if (comment) strcpy(line[0], "c");
+  else memmove(line[0], line[1], (size_t)--lines * MOST_LINE);
+  expect("no p line", join(), 18, edges == 0 ? 0 : comment ? 2 : 1);
+}
+
+static void early_edge(void) {
+  char words[MOST_LINE];
+  snprintf(words, sizeof words, "%s", line[lines - 1]);
+  put_line(0, lines > 1 ? words : "e 1 2"), put_line(0, "c");
+  expect("an edge before the p line", join(), 18, 2);
+}
+
+// The place of the first edge with a vertex above `most`, 0 where none has.
+static uint64_t first_above(int most) {
+  for (int k = 1, a, b; k < lines; k++) {
+    edge_of(k, &a, &b);
+    if (a > most || b > most) return (uint64_t)k + 1;
+  }
+  return 0;
+}
+
+// Another number of vertices.
+static void other_vertices(void) {
+  unsigned how = rnd(4);
+  int now = how == 0 ? 63 : how == 1 ? 64 : (int)rnd((uint32_t)vertices + 1);
+  uint64_t place = how == 1 || how == 3 ? 1 : first_above(now);
+  if (how == 3) snprintf(line[0], MOST_LINE, "p edge %s %d", beyond(rnd(64)), lines - 1);
+  else snprintf(line[0], MOST_LINE, "p edge %d %d", now, lines - 1);
+  vertices = now;
+  expect("another number of vertices", join(), place == 0 ? 0 : place == 1 ? 18 : 19, place);
+}
+
+// Another number of edges.
+static void other_edges(void) {
+  unsigned how = rnd(3), now = (unsigned)lines - 1;
+  if (how == 2) snprintf(line[0], MOST_LINE, "p edge %d %s", vertices, beyond(now));
+  else snprintf(line[0], MOST_LINE, "p edge %d %u", vertices, how == 0 && now > 0 ? now - 1 : now + 1);
+  expect("another number of edges", join(), 20, 0);
+}
+
+static void expect_cut(size_t size) {
+  uint64_t ended = 0;
+  for (size_t k = 0; k < size; k++) ended += text[k] == '\n';
+  int is_ended = size == 0 || text[size - 1] == '\n';
+  expect("a text cut off", size, size && is_ended ? 20 : 18, is_ended ? 0 : ended + 1);
+}
+
+// Cut at every place, or a long text at some.
+static void cut_off(void) {
+  size_t size = join();
+  for (size_t at = 0; at < size; at += size < 150 ? 1 : 1 + rnd((uint32_t)size / 4)) expect_cut(at);
+}
+
+static const char alphabet[] = "pec dg0123456789 \n";
+
+// Some bytes put in, taken out or changed.
+static void damaged_text(void) {
+  size_t size = join();
+  for (uint32_t k = 1 + rnd(2); k > 0 && size > 0; k--) {
+    uint32_t how = rnd(3), at = rnd((uint32_t)size);
+    unsigned char byte = rnd(4) ? (unsigned char)alphabet[rnd(18)] : (unsigned char)rnd(256);
+    if (how == 0) memmove(text + at + 1, text + at, size++ - at);
+    if (how == 1) memmove(text + at, text + at + 1, --size - at);
+    else text[at] = byte;
+  }
+  compare_reading(size);
+}
+
+// A small text of random bytes, half of them behind a `p` line.
+static void small_text(void) {
+  size_t size = rnd(2) ? (size_t)sprintf((char *)text, "p edge %d %d\n", (int)rnd(4), (int)rnd(3)) : 0, all = size + rnd(24);
+  while (size < all) text[size++] = (unsigned char)alphabet[rnd(18)];
+  compare_reading(size);
+}
+
+// A few random lines with small numbers, so that often two faults stand in one text.
+static void small_lines(void) {
+  static const char *const forms[] = {"p edge %d %d", "c %d %d", "e %d %d %d", "e %d"};
+  int many = (int)rnd(7);
+  for (lines = 0; lines < many; lines++) {
+    uint32_t how = lines == 0 && rnd(8) ? 0 : rnd(24);
+    snprintf(line[lines], MOST_LINE, how < 4 ? forms[how] : "e %d %d", (int)rnd(lines ? 4 : 6), (int)rnd(4), 1);
+  }
+  compare_reading(join() - (lines > 0 && rnd(16) == 0));
+}
+
+static void (*const kinds[])(void) = {stray_byte, no_space, other_line, comments, unended, repeated, shuffled, astray, second_problem, no_problem, early_edge,
+  other_vertices, other_edges, cut_off, damaged_text, damaged_text};
+
+// What is written reads back as the same table, and the texts that come of it by chance are read alike.
+static void compare_graphs(size_t len) {
+  size_t size = compare_drawing(len, YARD_GRAPH_BYTES), room = size ? size : rnd(40);
+  vertices = second_conflicts(sheet, len, table);
+  if (size > 0) memcpy(text, got, size), expect("what is written", size, 0, 0);
+  uint32_t off = rnd(4);
+  compare_drawing(len, off == 0 && room > 0 ? room - 1 : off == 1 ? rnd((uint32_t)room + 1) : off == 2 ? room + rnd(9) : room);
+  small_text(), small_lines();
+  for (int k = 0; k < 2 && size > 0; k++) {
+    second_graph_write(sheet, len, text, size), split(size);
+    kinds[rnd(sizeof kinds / sizeof *kinds)]();
+    vertices = sheet[0];
+  }
+}
+
+// Every byte of a small text changed to each other, each put in at each place, and each byte taken out.
+static void byte_by_byte(void) {
+  static const char small[] = "p edge 3 2\ne 1 2\nc\ne 1 3\n";
+  size_t size = sizeof small - 1;
+  for (size_t at = 0; at <= size; at++)
+    for (int byte = 0; byte < 256; byte++) {
+      memcpy(text, small, size), text[at] = (unsigned char)byte;
+      compare_reading(at < size ? size : size + 1);
+      memcpy(text + at + 1, small + at, size - at), compare_reading(size + 1);
+    }
+  for (size_t at = 0; at < size; at++) memcpy(text, small, at), memcpy(text + at, small + at + 1, size - at - 1), compare_reading(size - 1);
+}
+
+// Many comments between a `p` line, or another comment, and a last line, which is unended or not.
+static void far_line(const char *first, const char *last, int number, uint64_t place) {
+  size_t size = (size_t)sprintf((char *)text, "%s", first);
+  for (int k = 1; k < 70000; k++) text[size++] = 'c', text[size++] = '\n';
+  size += (size_t)sprintf((char *)text + size, "%s", last);
+  expect("many lines", size, number, place);
+}
+
+static void long_texts(void) {
+  memset(table, 0, sizeof table), table[1] = 4, table[2] = 2, vertices = 3;
+  far_line("p edge 3 1\n", "e 1 2\n", 0, 0), far_line("c\n", "p edge 3 1\ne 2 1\n", 0, 0), far_line("p edge 3 1\n", "e 2 1\nc", 18, 70002);
+  far_line("c\n", "e 1 2\n", 18, 70001), far_line("p edge 3 1\n", "e 1 1\n", 19, 70001), far_line("p edge 3 1\n", "c\n", 20, 0), far_line("c\n", "c\n", 18, 0);
+}
+
 static void compare(long want_yards, long want_plans) {
   while (yards < want_yards || plans < want_plans) {
     size_t len = some_sheet(), room = second_room(sheet, len);
@@ -251,7 +573,7 @@ static void compare(long want_yards, long want_plans) {
         compare_plans(len, first, second);
       }
     }
-    compare_listing(len, rnd(16) ? YARD_TEXT_BYTES : YARD_TEXT_BYTES - 1), compare_told(len);
+    compare_listing(len, rnd(16) ? YARD_TEXT_BYTES : YARD_TEXT_BYTES - 1), compare_told(len), compare_graphs(len);
   }
 }
 
@@ -286,20 +608,33 @@ static void yards_to_try(void) {
   named("no bytes at all", 0, YARD_PLAN_BYTES);
 }
 
-// The header's sizes are exact, by the longest sheet and plans that there are; the room for a listing is tried with every listing.
+// The header's sizes are exact, by the longest sheet, plans and graph that there are; the room for a listing is tried with every listing.
 static void sizes(void) {
   size_t len = chain(63, 15), size = second_by_probe(sheet, len, plan[0], YARD_PLAN_BYTES).bytes;
   if (len + 2 * 2016 + 1 != YARD_SHEET_BYTES || second_room(sheet, len) != YARD_PLAN_BYTES) differ("a size of yard.h", len, YARD_PLAN_BYTES, 0, 0);
   for (int slots = plan[0][0] * 256 + plan[0][1]; slots < 65534; slots++) plan[0][size++] = 0;
   put_count(plan[0], 65535), plan[0][size++] = 255, memset(plan[0] + size, 2, 255), size += 255;
   if (size != YARD_JUDGED_BYTES || compare_judge(len, 0, size).number != 13 || compare_judge(len, 0, size - 1).number != 11) differ("YARD_JUDGED_BYTES", len, 0, size, 0);
+  for (int v = 2; v <= 64; v++) sheet[2 * v - 3] = 1; // all next to the gateway, so that each two conflict
+  if (compare_drawing(len, YARD_GRAPH_BYTES) != YARD_GRAPH_BYTES) differ("YARD_GRAPH_BYTES", len, YARD_GRAPH_BYTES, 0, 0);
 }
 
 // Every refusal, and a yard with relays, is met often enough, or the comparison says little; 10 is never given.
 static void enough(void) {
   if (relayed < yards / 4) printf("only %ld of %ld yards have relays\n", relayed, yards), exit(1);
-  for (int k = 0; k < 18; k++)
+  for (int k = 0; k < NUMBERS; k++)
     if (k != 10 && numbers[k] < ENOUGH) printf("number %d was met only %ld times\n", k, numbers[k]), exit(1);
+}
+
+// So is every place of each of the reader's numbers; 0 and 20 have none in the text, and 19 has a `p` line before it.
+static void enough_places(void) {
+  static const char *const names[] = {"nowhere", "in the first line", "between", "in the last line", "behind line 65,535"};
+  for (int k = 18; k < 21; k++)
+    for (int place = NOWHERE; place < PLACES; place++) {
+      int never = k == 20 ? place != NOWHERE : k == 19 && place < BETWEEN;
+      if (!never && placed[k][place] < (place == FAR ? 1 : ENOUGH)) printf("number %d %s was met only %ld times\n", k, names[place], placed[k][place]), exit(1);
+    }
+  if (placed[0][NOWHERE] < ENOUGH) printf("only %ld texts were accepted\n", placed[0][NOWHERE]), exit(1);
 }
 
 // ---- one case again
@@ -319,6 +654,10 @@ static void show_plan(const char *name, yard_planned r, size_t room) {
   memset(got, FILL, sizeof got);
 }
 
+static void show_graph(const char *name, yard_drawn r) {
+  printf("%s: %d at %d, %zu bytes:\n", name, r.number, r.place, r.bytes), fwrite(got, 1, r.bytes, stdout);
+}
+
 static void show_sheet(size_t len, size_t room) {
   memset(got, FILL, sizeof got);
   show_plan("library by probe", yard_by_probe(sheet, len, got, room), room), show_plan("second by probe", second_by_probe(sheet, len, got, room), room);
@@ -327,6 +666,7 @@ static void show_sheet(size_t len, size_t room) {
   printf("library tells: %d at %d, %d, %d, %d; second tells: %d at %d, %d, %d, %d\n", a.number, a.place, a.least, a.ours, a.most, b.number, b.place, b.least, b.ours, b.most);
   printf("library lists:\n"), fwrite(got, 1, yard_list(sheet, len, got, YARD_TEXT_BYTES), stdout);
   printf("second lists:\n"), fwrite(got, 1, second_list(sheet, len, (char *)got), stdout);
+  show_graph("library draws", yard_graph_write(sheet, len, got, room)), show_graph("second draws", second_graph_write(sheet, len, got, room));
 }
 
 static void show(int argc, char **argv) {
@@ -341,16 +681,34 @@ static void show(int argc, char **argv) {
     printf("chosen: library %d, second %d\n", yard_choose(sheet, len, plan[0], size[0], plan[1], size[1]), second_choose(sheet, len, plan[0], size[0], plan[1], size[1]));
 }
 
+static void show_rows(const char *name, yard_graph r) {
+  printf("%s: %d at %llu, %d vertices; rows:", name, r.number, (unsigned long long)r.place, r.vertices);
+  for (int k = 0; k < 64; k++) printf(" %llx", (unsigned long long)rows[k]);
+  printf("\n");
+}
+
+static void show_text(const char *path) {
+  size_t size = load(path, text, MOST_TEXT);
+  show_rows("library", yard_graph_read(text, size, rows)), show_rows("second", second_graph_read(text, size, rows));
+}
+
 int main(int argc, char **argv) {
   if (argc >= 4 && argc <= 6 && !strcmp(argv[1], "show")) return show(argc, argv), 0;
-  if (argc != 4) return printf("usage: yards SEED YARDS PLANS | yards show ROOM SHEET [PLAN [PLAN]]\n"), 2;
+  if (argc == 3 && !strcmp(argv[1], "read")) return show_text(argv[2]), 0;
+  if (argc != 4) return printf("usage: yards SEED YARDS PLANS | yards show ROOM SHEET [PLAN [PLAN]] | yards read TEXT\n"), 2;
   state = strtoull(argv[1], 0, 10) * 2 + 1;
   yards_to_try();
   sizes();
+  byte_by_byte(), long_texts();
   compare(atol(argv[2]), atol(argv[3]));
-  if (yards >= 20000) enough();
+  if (yards >= 20000) enough(), enough_places();
   printf("%ld yards, %ld of them with relays, and %ld refused sheets, %ld plannings, %ld listings, %ld telephone answers and %ld judged plans agree; by number:", yards, relayed, sheets - yards, plannings, listings, asked, plans);
-  for (int k = 0; k < 18; k++) printf(" %d: %ld", k, numbers[k]);
+  for (int k = 0; k < NUMBERS; k++) printf(" %d: %ld", k, numbers[k]);
+  printf("\n%ld graphs written and %ld texts read agree; accepted: %ld; refused nowhere, in the first line, between, in the last, behind line 65,535:", drawings, texts, placed[0][NOWHERE]);
+  for (int k = 18; k < 21; k++) {
+    printf(" %d:", k);
+    for (int place = NOWHERE; place < PLACES; place++) printf(" %ld", placed[k][place]);
+  }
   printf("\n");
   return 0;
 }

@@ -1,3 +1,3 @@
 -- Laws that belong to no one function.
-pub mod Digits
+pub mod SlotSaid
 pub mod Spoken

@@ -1,27 +1,13 @@
 -- RULES, "The answers in words": how long a slot is, as a word says it, and how long so many slots take.
-use mathlib.Core.Bool.{Bool, false, cond, not, _&&_, _||_}
-use mathlib.Core.List.{[], _∷_}
-use Prim.Native.Nat.{ℕ, _+_, _-_, _*_, _/_, min}
-use lib.Dec.{leb, ltb}
+use mathlib.Core.Bool.{cond, _||_}
+use Prim.Native.Nat.{ℕ, _+_, _*_, _/_, min}
+use lib.Dec.{ltb}
 use Rattle.meaning.specs.Words.{Bytes}
+use Rattle.digits.specs.Digits.{othersStand, digitsSay}
 
 -- a slot is at most a minute long, in milliseconds
 abbrev pub longestSlot : ℕ
 longestSlot = 60000
-
--- 0 to 9
-abbrev pub isDigit : (byte : ℕ) → Bool
-isDigit byte = leb 48 byte && leb byte 57
-
--- whether any byte of a word is no digit
-unfoldable pub othersStand : (word : Bytes) → Bool
-othersStand [] = false
-othersStand (byte ∷ rest) = not (isDigit byte) || othersStand rest
-
--- the number that digits say behind the number before them
-unfoldable pub digitsSay : (before : ℕ) → (digits : Bytes) → ℕ
-digitsSay before [] = before
-digitsSay before (digit ∷ rest) = digitsSay (10 * before + (digit - 48)) rest
 
 -- the milliseconds that a word says, 1 to 60,000; 0 where it says anything else
 unfoldable pub millisecondsSaid : (word : Bytes) → ℕ

@@ -1,49 +1,25 @@
 // The telephone in the dealer's words: how long a slot is, and the three sentences about a sheet.
 ghost use mathlib.Core.Path.{_≡_};
-ghost use Prim.Native.Nat.{_+_, _-_, _*_, _≤_, min};
+ghost use Prim.Native.Nat.{_≤_, min};
 ghost use lib.ListN.{length, take};
 ghost use Rattle.lines.specs.Line.{lineLength, lineIn};
 ghost use Rattle.wording.specs.Fits.{Fits};
-ghost use Rattle.dealer.specs.SlotLength.{longestSlot, isDigit, millisecondsSaid, secondsOf};
+ghost use Rattle.dealer.specs.SlotLength.{longestSlot, millisecondsSaid, secondsOf};
 ghost use Rattle.dealer.specs.Sentences.{timed, leastSaid, oursSaid, mostSaid, sentences, askedText};
 use meaning::Told;
 
 // A slot is at most a minute long, in milliseconds.
 const LONGEST_SLOT: u16 = 60000;
 
-fn is_digit(byte: u8) -> bool
-    ensures { λ r. ⌜ r ≡ isDigit byte ⌝ }
-{
-    (48 <= byte) & (byte <= 57)
-}
-
-// The number that a digit makes behind the number before it.
-fn with_digit(before: u16, digit: u8) -> u32
-    requires { ⌜ 48 ≤ digit ⌝ }
-    ensures { λ r. ⌜ r ≡ 10 * before + (digit - 48) ⌝ }
-{
-    10 * before as u32 + (digit - 48) as u32
-}
-
 // The milliseconds that a word says, 1 to 60,000; 0 where it says anything else.
 pub fn milliseconds(word: &[u8]) -> u16
     ensures { λ r. ⌜ r ≡ millisecondsSaid (now (word .entry)) ⌝ }
 {
-    let mut before: u16 = 0;
-    let mut i = 0;
-    while i < word.len() {
-        let byte = word[i];
-        if !is_digit(byte) {
-            return 0;
-        }
-        let more = with_digit(before, byte);
-        if (LONGEST_SLOT as u32) < more {
-            return 0;
-        }
-        before = more as u16;
-        i += 1;
+    if digits::others_stand(word) {
+        return 0;
     }
-    before
+    let said = digits::number_said(word);
+    if LONGEST_SLOT < said { 0 } else { said }
 }
 
 fn at_most_a_minute(ms: u16) -> u16

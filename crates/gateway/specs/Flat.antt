@@ -1,13 +1,17 @@
--- The answers of RULES, "Numbers returned" and "The telephone", as C sees them.
+-- The answers of RULES, "Numbers returned", "The telephone" and "A graph as text", as C sees them.
 use Prim.Native.Nat.{ℕ}
 use Rattle.meaning.specs.declared.Planned.{Planned}
 use Rattle.meaning.specs.declared.Verdict.{Verdict}
 use Rattle.meaning.specs.declared.Told.{Told}
 use Rattle.meaning.specs.declared.Choice.{Choice}
 use Rattle.meaning.specs.declared.Choice.the-variants.{Neither, First, Second}
+use Rattle.graph.specs.declared.Drawn.{Drawn}
+use Rattle.graph.specs.declared.Graph.{Graph}
 use Rattle.gateway.specs.declared.YardPlanned.{YardPlanned}
 use Rattle.gateway.specs.declared.YardVerdict.{YardVerdict}
 use Rattle.gateway.specs.declared.YardTold.{YardTold}
+use Rattle.gateway.specs.declared.YardDrawn.{YardDrawn}
+use Rattle.gateway.specs.declared.YardGraph.{YardGraph}
 
 -- "Numbers returned": number, place, colours, slots and bytes written
 abbrev pub flatPlanned : Planned → YardPlanned
@@ -21,6 +25,14 @@ flatVerdict r = record { number = r .outcome .number; place = r .outcome .place;
 -- Demand 3, on the telephone: number, place, and the slots at least, in our plan and at most
 abbrev pub flatTold : Told → YardTold
 flatTold r = record { number = r .outcome .number; place = r .outcome .place; least = r .least; ours = r .ours; most = r .most }
+
+-- "A graph as text", written: number, place and bytes
+abbrev pub flatDrawn : Drawn → YardDrawn
+flatDrawn r = record { number = r .outcome .number; place = r .outcome .place; bytes = r .bytes }
+
+-- "A graph as text", read: number, place and vertices
+abbrev pub flatGraph : Graph → YardGraph
+flatGraph r = record { number = r .number; place = r .place; vertices = r .vertices }
 
 -- "Numbers returned": which plan the chooser hands back
 abbrev pub choiceNumber : Choice → ℕ

@@ -1,13 +1,20 @@
-// The library for gateways: telephone, planners, judge, chooser and lister over pointers and lengths, as include/yard.h declares them.
+// The library for gateways: telephone, planners, judge, chooser, lister and graphs over pointers and lengths, as include/yard.h declares them.
 ghost use mathlib.Core.Path.{_≡_};
-ghost use lib.ListN.{length};
+ghost use mathlib.Core.Bool.{false, cond};
+ghost use Prim.Native.Nat.{_+_, _^_, _<_};
+ghost use lib.ListN.{length, getD};
 ghost use Rattle.meaning.specs.Plan.{front};
 ghost use Rattle.meaning.specs.Rounds.{byProbe, byLevel};
 ghost use Rattle.meaning.specs.Answer.{planMade};
 ghost use Rattle.meaning.specs.Judge.{judge, choice};
 ghost use Rattle.meaning.specs.Telephone.{asked};
 ghost use Rattle.listing.specs.Listed.{listedLength, listedIn};
-ghost use Rattle.gateway.specs.Flat.{flatPlanned, flatVerdict, flatTold, choiceNumber};
+ghost use Rattle.graph.specs.Drawing.{graphMade};
+ghost use Rattle.graph.specs.Reading.{graphRead};
+ghost use Rattle.gateway.specs.Flat.{flatPlanned, flatVerdict, flatTold, flatDrawn, flatGraph, choiceNumber};
+ghost use Rattle.gateway.specs.Rows.{word, rowWords};
+use graph::Drawn;
+use graph::Graph;
 use meaning::Choice;
 use meaning::Planned;
 use meaning::Told;
@@ -39,6 +46,22 @@ pub struct YardTold {
     pub least: u16,
     pub ours: u16,
     pub most: u16,
+}
+
+// What the writer of a graph answers, with C's layout.
+#[repr(C)]
+pub struct YardDrawn {
+    pub number: u8,
+    pub place: u16,
+    pub bytes: usize,
+}
+
+// What the reader of a graph answers, with C's layout.
+#[repr(C)]
+pub struct YardGraph {
+    pub number: u8,
+    pub place: u64,
+    pub vertices: u8,
 }
 
 fn planned(r: Planned) -> YardPlanned
@@ -76,6 +99,62 @@ fn told(r: Told) -> YardTold
         ours: r.ours,
         most: r.most,
     }
+}
+
+fn drawn(r: Drawn) -> YardDrawn
+    ensures { λ f. ⌜ f ≡ flatDrawn r ⌝ }
+{
+    let outcome = r.outcome;
+    YardDrawn {
+        number: outcome.number,
+        place: outcome.place,
+        bytes: r.bytes,
+    }
+}
+
+fn graph(r: Graph) -> YardGraph
+    ensures { λ f. ⌜ f ≡ flatGraph r ⌝ }
+{
+    YardGraph {
+        number: r.number,
+        place: r.place,
+        vertices: r.vertices,
+    }
+}
+
+// Bit k where it is to be set.
+fn bit_if(is: bool, k: u32) -> u64
+    requires { ⌜ k < 64 ⌝ }
+    ensures { λ r. ⌜ r ≡ cond is (2 ^ k) 0 ⌝ }
+{
+    if is { 1u64 << k } else { 0 }
+}
+
+// A table's row as a word: bit k for node k + 1.
+fn word(row: &[bool; 65]) -> u64
+    ensures { λ r. ⌜ r ≡ word (λ k. getD (now (row .entry)) (k + 1) false) ⌝ }
+{
+    let mut w: u64 = 0;
+    let mut k: u32 = 0;
+    while k < 64 {
+        let y = k as usize + 1;
+        w += bit_if(row[y], k);
+        k += 1;
+    }
+    w
+}
+
+// The rows of the nodes 1 to 64 as words.
+fn row_words(table: &[[bool; 65]; 65]) -> [u64; 64]
+    ensures { λ r. ⌜ r ≡ rowWords (now (table .entry)) ⌝ }
+{
+    let mut rows = [0u64; 64];
+    let mut j: usize = 0;
+    while j < 64 {
+        rows[j] = word(&table[j + 1]);
+        j += 1;
+    }
+    rows
 }
 
 // The telephone.
@@ -136,4 +215,26 @@ pub extern "C" fn yard_list(sheet: &[u8], text: &mut [u8]) -> usize
     ensures buffer { λ _. ⌜ now (text .exit) ≡ listedIn (now (sheet .entry)) (now (text .entry)) ⌝ }
 {
     listing::list(sheet, text)
+}
+
+// A graph's text, of a sheet.
+#[no_mangle]
+pub extern "C" fn yard_graph_write(sheet: &[u8], text: &mut [u8]) -> YardDrawn
+    ensures answer { λ r. ⌜ r ≡ flatDrawn (graphMade (now (sheet .entry)) (length (now (text .entry))) .answer) ⌝ }
+    ensures buffer { λ _. ⌜ now (text .exit) ≡ front (now (text .entry)) (graphMade (now (sheet .entry)) (length (now (text .entry))) .written) ⌝ }
+{
+    let r = draw::graph_made(sheet, text);
+    drawn(r)
+}
+
+// A graph's text read into words, one a row.
+#[no_mangle]
+pub extern "C" fn yard_graph_read(text: &[u8], rows: &mut [u64; 64]) -> YardGraph
+    ensures answer { λ r. ⌜ r ≡ flatGraph (graphRead (now (text .entry)) .answer) ⌝ }
+    ensures rows { λ _. ⌜ now (rows .exit) ≡ rowWords (graphRead (now (text .entry)) .table) ⌝ }
+{
+    let mut table = [[false; 65]; 65];
+    let r = parse::graph_read(text, &mut table);
+    *rows = row_words(&table);
+    graph(r)
 }

@@ -17,7 +17,7 @@ unfolding decimal
 decimal-last zero n ne h = absurd (ne refl)
 decimal-last (suc most) n ne h = rw (lt-ltb n 10 h)
 
-opened : (most n : ℕ) → 10 ≤ n → decimal (suc most) n ≡ decimal most (n / 10) ++ ((48 + n % 10) ∷ [])
+pub opened : (most n : ℕ) → 10 ≤ n → decimal (suc most) n ≡ decimal most (n / 10) ++ ((48 + n % 10) ∷ [])
 unfolding decimal
 opened most n h = rw (le-ltb n 10 h)
 

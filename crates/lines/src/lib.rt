@@ -24,7 +24,7 @@ fn put_text(bytes: &[u8], out: &mut [u8], at: usize) -> usize
 }
 
 // How many digits a number has, of which at most so many are said.
-fn digits(most: u8, n: u16) -> u8
+fn digits(most: u8, n: u64) -> u8
     ensures count { λ r. ⌜ r ≡ length (decimal most n) ⌝ }
     ensures few { λ r. ⌜ r ≤ most ⌝ }
 {
@@ -38,7 +38,7 @@ fn digits(most: u8, n: u16) -> u8
 }
 
 // Puts a number at a place, in decimal of at most so many digits; says where it ends.
-fn put_digits(most: u8, n: u16, out: &mut [u8], at: usize) -> usize
+fn put_digits(most: u8, n: u64, out: &mut [u8], at: usize) -> usize
     requires { ⌜ at + length (decimal most n) ≤ length (now out) ⌝ }
     ensures { λ r. ⌜ Put (now (out .entry)) at (decimal most n) (now (out .exit)) r ⌝ }
 {
@@ -73,7 +73,7 @@ fn put_said(words: &[u8], n: u16, out: &mut [u8], at: usize) -> usize
     ensures { λ r. ⌜ Put (now (out .entry)) at (now (words .entry) ++ decimal 5 n) (now (out .exit)) r ⌝ }
 {
     let next = put_text(words, out, at);
-    put_digits(5, n, out, next)
+    put_digits(5, n as u64, out, next)
 }
 
 // Puts words and then a number at a place, or nothing where they do not all fit; says where they end.
@@ -87,10 +87,23 @@ pub fn put_counted(words: &[u8], n: u16, out: &mut [u8], at: usize) -> usize
     if room < words.len() {
         return at;
     }
-    if room - words.len() < digits(5, n) as usize {
+    if room - words.len() < digits(5, n as u64) as usize {
         return at;
     }
     put_said(words, n, out, at)
+}
+
+// Puts a number of up to 20 digits at a place, or nothing where it does not fit; says where it ends.
+pub fn put_long(n: u64, out: &mut [u8], at: usize) -> usize
+    ensures { λ r. ⌜ Put (now (out .entry)) at (fitting (now (out .entry)) at (decimal 20 n)) (now (out .exit)) r ⌝ }
+{
+    if out.len() < at {
+        return at;
+    }
+    if out.len() - at < digits(20, n) as usize {
+        return at;
+    }
+    put_digits(20, n, out, at)
 }
 
 // A refusal's line: its number and place.
@@ -100,7 +113,7 @@ pub fn refusal_line(outcome: Outcome, out: &mut [u8]) -> usize
 {
     let number = outcome.number as u16;
     let place = outcome.place;
-    let need = 10 + digits(5, number) as usize + digits(5, place) as usize;
+    let need = 10 + digits(5, number as u64) as usize + digits(5, place as u64) as usize;
     if out.len() < need {
         return 0;
     }
@@ -114,8 +127,8 @@ pub fn numbers_line(colours: u8, slots: u16, packets: u16, heaviest: u16, out: &
     ensures answer { λ r. ⌜ r ≡ lineLength (now (out .entry)) (numbersLine colours slots packets heaviest) ⌝ }
     ensures buffer { λ _. ⌜ now (out .exit) ≡ lineIn (now (out .entry)) (numbersLine colours slots packets heaviest) ⌝ }
 {
-    let few = digits(5, colours as u16) as usize + digits(5, slots) as usize;
-    let more = digits(5, packets) as usize + digits(5, heaviest) as usize;
+    let few = digits(5, colours as u64) as usize + digits(5, slots as u64) as usize;
+    let more = digits(5, packets as u64) as usize + digits(5, heaviest as u64) as usize;
     if out.len() < 35 + few + more {
         return 0;
     }
@@ -131,14 +144,14 @@ fn slot_fits(number: Slot, senders: &[u8], room: usize) -> bool
     ensures { λ r. ⌜ r ≡ leb (length (slotLine (number .0) (now (senders .entry)))) room ⌝ }
 {
     let n = number.0;
-    let around = 2 + digits(5, n) as usize;
+    let around = 2 + digits(5, n as u64) as usize;
     if room < around {
         return false;
     }
     let mut left = room - around;
     let mut i = 0;
     while i < senders.len() {
-        let need = 1 + digits(5, laws::number_at(senders, i) as u16) as usize;
+        let need = 1 + digits(5, laws::number_at(senders, i) as u64) as usize;
         if left < need {
             return false;
         }
@@ -180,7 +193,7 @@ pub fn slot_line(number: Slot, senders: &[u8], out: &mut [u8]) -> usize
         return 0;
     }
     let n = number.0;
-    let at = put_digits(5, n, out, 0);
+    let at = put_digits(5, n as u64, out, 0);
     let colon = put_text(b":", out, at);
     let end = put_senders(senders, out, colon);
     put_text(b"\n", out, end)

@@ -3,4 +3,5 @@ pub mod Numbers
 pub mod Planning
 pub mod Choosing
 pub mod Bytes
+pub mod Drawing
 pub mod Promises

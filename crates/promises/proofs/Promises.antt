@@ -1,4 +1,4 @@
--- The page of promises: what planners, judge, chooser, lister and telephone answer for every input, by their contracts, in the words of `specs/Answers.antt`.
+-- The page of promises: what planners, judge, chooser, lister, telephone and the writer and reader of graphs answer for every input, by their contracts, in the words of `specs/Answers.antt` and, of graphs, `specs/Graphs.antt`.
 use mathlib.Core.Path.{_≡_}
 use mathlib.Core.Bool.{true, cond}
 use mathlib.Core.List.{List, []}
@@ -16,6 +16,7 @@ use Rattle.meaning.specs.Judge.{judge, choice, handedBack}
 use Rattle.meaning.specs.Lister.{list, listing}
 use Rattle.meaning.specs.Telephone.{atMost, asked}
 use Rattle.meaning.specs.Legal.{Good}
+use Rattle.meaning.specs.Conflict.{tableOf, conflictTable}
 use Rattle.laws.proofs.Exact.{good-passed}
 use Rattle.laws.proofs.Recorded.{no-empty-slot}
 use Rattle.laws.proofs.Used.{probe-colours-used, level-colours-used}
@@ -24,6 +25,15 @@ use Rattle.limits.proofs.Deciding.{verdict-decided, text-decided}
 use Rattle.limits.proofs.Fewest.{slots-least}
 use Rattle.limits.proofs.Tops.{heaviest-at-top}
 use Rattle.telephone.proofs.Limits.{answered, not-answered, least-ours, ours-most, least-any}
+use Rattle.graph.specs.Part.{newline, marks}
+use Rattle.graph.specs.Table.{noEdges}
+use Rattle.graph.specs.Reading.{graphRead}
+use Rattle.graph.specs.Drawing.{graphText}
+use Rattle.readback.specs.Named.{named}
+use Rattle.readback.proofs.Drawn.{written-reads-back, refused-empty}
+use Rattle.readback.proofs.EdgeSet.{tells-edges}
+use Rattle.promises.specs.Graphs.{Draws, textOf}
+use Rattle.promises.proofs.Drawing.{draws, draws-nothing, draws-short}
 use Rattle.promises.specs.Answers.{Planner, probe, level, way, slotsBy, answer, after, planOf, Answers, counted, Accepted, Refused, NoRelay, Room, Short, Passes, Byte, numbers}
 use Rattle.promises.proofs.Planning.{plans, refuses-sheet, refuses-short, never-ten, own-passes, slots-few, by-probe-limit, by-probe-longest, by-probe-heaviest, by-level-limit, by-level-all, decides}
 use Rattle.promises.proofs.Choosing.{first-chosen, second-chosen, neither-chosen}
@@ -154,3 +164,29 @@ bytes-decide-text = text-decided
 -- "Numbers returned": the first 96,032 bytes of a plan decide its verdict
 pub bytes-decide-plan : (s : Bytes) (plan : List Byte) → judge s (take decidingPlan (numbers plan)) ≡ judge s (numbers plan)
 bytes-decide-plan = plan-bytes-decide
+
+-- "A graph as text": every accepted sheet's graph is written wherever there is room, and what is written reads back as the sheet's conflict table, with its number of probes
+pub graph-drawn : (s buffer : Bytes) → Accepted s → length (graphText s) ≤ length buffer
+    → Draws s buffer (record { outcome = accepted; bytes = length (graphText s) }) (front buffer (graphText s))
+graph-drawn = draws
+
+pub graph-reads-back : (s buffer : Bytes) → Accepted s → length (graphText s) ≤ length buffer
+    → graphRead (textOf s buffer) ≡ record { answer = record { number = 0; place = 0; vertices = probeCount s }; table = conflictTable s }
+graph-reads-back = written-reads-back
+
+-- "A graph as text": every other sheet gets the refusal of its own test, and a buffer that is too short gets 21; nothing is written
+pub graph-refused : (s buffer : Bytes) → Refused s → Draws s buffer (record { outcome = sheetTest s; bytes = 0 }) buffer
+graph-refused = draws-nothing
+
+pub graph-no-room : (s buffer : Bytes) → Accepted s → length buffer < length (graphText s)
+    → Draws s buffer (record { outcome = record { number = 21; place = 0 }; bytes = 0 }) buffer
+graph-no-room = draws-short
+
+-- "A graph as text": reading tells the edge set exactly: an edge is in the table just when an `e` line of the text names it, either way round
+pub graph-edges : (text : Bytes) → graphRead text .answer .number ≡ 0 → graphRead text .table ≡ tableOf (named text (marks newline text))
+graph-edges = tells-edges
+
+-- "A graph as text": a refused text gives the table of 0 vertices
+pub graph-of-refused : (text : Bytes) → (graphRead text .answer .number ≡ 0 → ⊥)
+    → (graphRead text .answer .vertices ≡ 0) × (graphRead text .table ≡ noEdges)
+graph-of-refused = refused-empty

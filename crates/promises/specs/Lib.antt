@@ -1,2 +1,3 @@
 -- The words of the page of promises.
 pub mod Answers
+pub mod Graphs

@@ -17,7 +17,7 @@ use Rattle.meaning.specs.Answer.{isAccepted}
 use Rattle.meaning.specs.Lister.{text, decimal, said}
 use Rattle.lines.proofs.Decimal.{digits-most}
 use Rattle.lines.proofs.Lined.{said-length}
-use Rattle.wording.specs.Saying.{unknown, sayings, saying, refusedLine, plannedLine, verdictLine, choiceLine, choiceText}
+use Rattle.wording.specs.Saying.{unknown, sayings, saying, refusedLine, plannedLine, verdictLine, choiceLine, choiceText, writtenLine, misreadLine}
 
 -- so many bytes at most
 pub record Within (bytes : List ℕ) (most : ℕ) : Type 0 where
@@ -93,6 +93,21 @@ chosen-long choice first second =
     let between = counted {bytes = text "second: "} {most = 8} refl in
     both (both (both (both (choice-long choice) before) (verdict-long first)) between) (verdict-long second)
 
+written-long : (outcome : Outcome) (bytes : ℕ) → Within (writtenLine outcome bytes) 102
+unfolding text writtenLine
+written-long outcome bytes =
+    let line = both (numbered {a = 7} "written" (min bytes 65535) (counted refl)) (counted {bytes = text " bytes\n"} {most = 7} refl) in
+    either (isAccepted outcome) (leb-true 20 102 refl) line (refused-long outcome)
+
+misread-long : (number place : ℕ) → Within (misreadLine number place) 117
+unfolding text misreadLine
+misread-long number place =
+    let first = numbered {a = 7} "refused" number (counted refl) in
+    let line : Within (decimal 20 place) 20 = record { short = digits-most 20 place } in
+    both
+    (both (both (both (both first (counted {bytes = text " "} {most = 1} refl)) line) (counted {bytes = text ": "} {most = 2} refl)) (saying-long number))
+    (counted {bytes = text "\n"} {most = 1} refl)
+
 -- so any answer fits into 256 bytes
 pub refused-most : (outcome : Outcome) → length (refusedLine outcome) ≤ 256
 refused-most outcome = omega (arith, refused-long outcome .short)
@@ -105,3 +120,9 @@ verdict-most verdict = omega (arith, verdict-long verdict .short)
 
 pub chosen-most : (choice : Choice) (first second : Verdict) → length (choiceText choice first second) ≤ 256
 chosen-most choice first second = omega (arith, chosen-long choice first second .short)
+
+pub written-most : (outcome : Outcome) (bytes : ℕ) → length (writtenLine outcome bytes) ≤ 256
+written-most outcome bytes = omega (arith, written-long outcome bytes .short)
+
+pub misread-most : (number place : ℕ) → length (misreadLine number place) ≤ 256
+misread-most number place = omega (arith, misread-long number place .short)

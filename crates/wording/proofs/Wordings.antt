@@ -12,13 +12,6 @@ use Rattle.lines.proofs.Putting.{put-long, put-short, fitted}
 use Rattle.lines.proofs.Lined.{Lined, line-short, line-put}
 use Rattle.wording.specs.Fits.{Fits}
 
--- the line as it is made
-abbrev blank : List ℕ
-blank = replicate 256 0
-
-blank-long : length blank ≡ 256
-blank-long = length-replicate {A = ℕ} 256 0
-
 -- what a function that writes an answer says of it
 abbrev pub Answered : List ℕ → List ℕ → List ℕ → ℕ → Type 0
 Answered before text after answer = ((answer ≤ length after) × (answer ≡ length (take answer after))) × Lined before text after answer
@@ -41,9 +34,13 @@ copied {out} {after} {r} text p = go (decLe (length text) (length out))
         let lined = subst (λ (l : List ℕ). Lined out text l 0) same (line-short out text (omega (arith, short))) in
         (part after r (omega (arith, zero)), subst (Lined out text after) zero lined)
 
-module _ {line text : List ℕ} {n : ℕ} (short : length text ≤ 256) (made : Fits blank 0 text line n) where
+module _ {line text : List ℕ} {n size : ℕ} (short : length text ≤ size) (made : Fits (replicate size 0) 0 text line n) where
+  -- the line as it is made
+  abbrev blank : List ℕ
+  blank = replicate size 0
+
   room : 0 + length text ≤ length blank
-  room = omega (arith, short, blank-long)
+  room = omega (arith, short, length-replicate {A = ℕ} size 0)
 
   stands : Put blank 0 text line n
   stands = made .put room
@@ -54,10 +51,13 @@ module _ {line text : List ℕ} {n : ℕ} (short : length text ≤ 256) (made : 
   pub line-counts : n ≡ length (take n line)
   line-counts = sym (length-take-le n line line-end)
 
+  pub line-ends : n ≡ length text
+  line-ends = stands .ends ∙ zero-add (length text)
+
   lent : take n line ≡ text
   lent =
       ap (take n) (stands .wrote ∙ sets-eq text blank 0 room)
-      ∙ take-at text (drop (0 + length text) blank) n (sym (stands .ends ∙ zero-add (length text)))
+      ∙ take-at text (drop (0 + length text) blank) n (sym line-ends)
 
   pub answered : {out after : List ℕ} {r : ℕ} → Put out 0 (fitting out 0 (take n line)) after r → Answered out text after r
   answered {out} {after} {r} p = copied text (subst (λ (b : List ℕ). Put out 0 (fitting out 0 b) after r) lent p)

@@ -10,13 +10,13 @@ use Rattle.meaning.specs.declared.Choice.{Choice}
 use Rattle.meaning.specs.declared.Choice.the-variants.{Neither, First, Second}
 use Rattle.meaning.specs.Words.{Bytes}
 use Rattle.meaning.specs.Answer.{isAccepted}
-use Rattle.meaning.specs.Lister.{text, said, refusal}
+use Rattle.meaning.specs.Lister.{text, decimal, said, refusal}
 
 -- no proved answer has such a number; it is not given another's words
 unfoldable pub unknown : Bytes
 unknown = text "no number of docs/NUMBERS.md"
 
--- docs/NUMBERS.md, "in words": those of 1, 2, .. 17, behind those of 0
+-- docs/NUMBERS.md, "in words": those of 1, 2, .. 21, behind those of 0
 unfoldable pub sayings : List Bytes
 sayings =
     unknown
@@ -37,6 +37,10 @@ sayings =
     ∷ text "two senders of the slot conflict"
     ∷ text "bytes stand behind the last slot"
     ∷ text "packets are left outside the gateway"
+    ∷ text "the line may not stand there, or at 0 no p line came"
+    ∷ text "the edge names a vertex out of range, or one vertex twice"
+    ∷ text "the p line counts other edges than there are"
+    ∷ text "the buffer is shorter than the graph's text"
     ∷ []
 
 -- docs/NUMBERS.md: what a refusal's number says
@@ -69,3 +73,11 @@ choiceLine Neither = text "neither\n"
 unfoldable pub choiceText : Choice → (first second : Verdict) → Bytes
 choiceText choice first second =
     choiceLine choice ++ text "first: " ++ verdictLine first ++ text "second: " ++ verdictLine second
+
+-- "The answers in words": what the writer of a graph answers; more bytes than 65,535, which no graph of ours has, count as 65,535
+unfoldable pub writtenLine : Outcome → (bytes : ℕ) → Bytes
+writtenLine outcome bytes = cond (isAccepted outcome) (said "written" (min bytes 65535) ++ text " bytes\n") (refusedLine outcome)
+
+-- "The answers in words": the refusal of a text, whose place may have twenty digits
+unfoldable pub misreadLine : (number place : ℕ) → Bytes
+misreadLine number place = said "refused" number ++ text " " ++ decimal 20 place ++ text ": " ++ saying number ++ text "\n"

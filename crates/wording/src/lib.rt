@@ -3,7 +3,7 @@ ghost use mathlib.Core.Path.{_≡_};
 ghost use Prim.Native.Nat.{_≤_, _<_, min};
 ghost use lib.ListN.{length, take};
 ghost use Rattle.lines.specs.Line.{lineLength, lineIn};
-ghost use Rattle.wording.specs.Saying.{saying, refusedLine, plannedLine, verdictLine, choiceLine, choiceText};
+ghost use Rattle.wording.specs.Saying.{saying, refusedLine, plannedLine, verdictLine, choiceLine, choiceText, writtenLine, misreadLine};
 ghost use Rattle.wording.specs.Fits.{Fits};
 use meaning::Choice;
 use meaning::Outcome;
@@ -81,14 +81,35 @@ fn put_of_slot(number: u8, out: &mut [u8], at: usize) -> usize
     }
 }
 
-// What 16 and 17 say of a plan's end; no proved answer has a larger number, which is not given another's words.
+// What 16 and 17 say of a plan's end.
 fn put_of_end(number: u8, out: &mut [u8], at: usize) -> usize
-    requires { ⌜ 15 < number ⌝ }
+    requires { ⌜ (15 < number) × (number < 18) ⌝ }
     ensures { λ r. ⌜ Fits (now (out .entry)) at (saying number) (now (out .exit)) r ⌝ }
 {
     match number {
         16 => lines::put_words(b"bytes stand behind the last slot", out, at),
-        17 => lines::put_words(b"packets are left outside the gateway", out, at),
+        _ => lines::put_words(b"packets are left outside the gateway", out, at),
+    }
+}
+
+// What 18 to 21 say of a graph's text; no proved answer has a larger number, which is not given another's words.
+fn put_of_graph(number: u8, out: &mut [u8], at: usize) -> usize
+    requires { ⌜ 17 < number ⌝ }
+    ensures { λ r. ⌜ Fits (now (out .entry)) at (saying number) (now (out .exit)) r ⌝ }
+{
+    match number {
+        18 => lines::put_words(
+            b"the line may not stand there, or at 0 no p line came",
+            out,
+            at,
+        ),
+        19 => lines::put_words(
+            b"the edge names a vertex out of range, or one vertex twice",
+            out,
+            at,
+        ),
+        20 => lines::put_words(b"the p line counts other edges than there are", out, at),
+        21 => lines::put_words(b"the buffer is shorter than the graph's text", out, at),
         _ => lines::put_words(b"no number of docs/NUMBERS.md", out, at),
     }
 }
@@ -109,7 +130,10 @@ fn put_saying(number: u8, out: &mut [u8], at: usize) -> usize
     if number < 16 {
         return put_of_slot(number, out, at);
     }
-    put_of_end(number, out, at)
+    if number < 18 {
+        return put_of_end(number, out, at);
+    }
+    put_of_graph(number, out, at)
 }
 
 // Puts the line of a refusal at a place; says where it ends.
@@ -183,6 +207,29 @@ fn put_chosen(choice: Choice, first: Verdict, second: Verdict, out: &mut [u8], a
     put_verdict(second, out, e)
 }
 
+// Puts the line of a graph's writer at a place; says where it ends.
+fn put_written(outcome: Outcome, bytes: usize, out: &mut [u8], at: usize) -> usize
+    ensures { λ r. ⌜ Fits (now (out .entry)) at (writtenLine outcome bytes) (now (out .exit)) r ⌝ }
+{
+    if outcome.number != 0 {
+        return put_refused(outcome, out, at);
+    }
+    let a = lines::put_counted(b"written ", few(bytes), out, at);
+    lines::put_words(b" bytes\n", out, a)
+}
+
+// Puts the refusal of a text at a place; says where it ends.
+fn put_misread(number: u8, place: u64, out: &mut [u8], at: usize) -> usize
+    ensures { λ r. ⌜ Fits (now (out .entry)) at (misreadLine number place) (now (out .exit)) r ⌝ }
+{
+    let a = lines::put_counted(b"refused ", number as u16, out, at);
+    let b = lines::put_words(b" ", out, a);
+    let d = lines::put_long(place, out, b);
+    let e = lines::put_words(b": ", out, d);
+    let f = put_saying(number, out, e);
+    lines::put_words(b"\n", out, f)
+}
+
 // A refusal in words, at the start of a lent buffer; says how many bytes it has, 0 and nothing written where they do not fit.
 pub fn refused(out: &mut [u8], outcome: Outcome) -> usize
     ensures part { λ r. ⌜ (r ≤ length (now (out .exit))) × (r ≡ length (take r (now (out .exit)))) ⌝ }
@@ -225,4 +272,26 @@ pub fn chosen(out: &mut [u8], choice: Choice, first: Verdict, second: Verdict) -
     let mut text = [0u8; ANY_ANSWER];
     let n = put_chosen(choice, first, second, &mut text, 0);
     lines::put_words(&text[..n], out, 0)
+}
+
+// The same of the answer of a graph's writer.
+pub fn written(out: &mut [u8], outcome: Outcome, bytes: usize) -> usize
+    ensures part { λ r. ⌜ (r ≤ length (now (out .exit))) × (r ≡ length (take r (now (out .exit)))) ⌝ }
+    ensures answer { λ r. ⌜ r ≡ lineLength (now (out .entry)) (writtenLine outcome bytes) ⌝ }
+    ensures buffer { λ _. ⌜ now (out .exit) ≡ lineIn (now (out .entry)) (writtenLine outcome bytes) ⌝ }
+{
+    let mut line = [0u8; ANY_ANSWER];
+    let n = put_written(outcome, bytes, &mut line, 0);
+    lines::put_words(&line[..n], out, 0)
+}
+
+// The same of a text that is refused.
+pub fn misread(out: &mut [u8], number: u8, place: u64) -> usize
+    ensures part { λ r. ⌜ (r ≤ length (now (out .exit))) × (r ≡ length (take r (now (out .exit)))) ⌝ }
+    ensures answer { λ r. ⌜ r ≡ lineLength (now (out .entry)) (misreadLine number place) ⌝ }
+    ensures buffer { λ _. ⌜ now (out .exit) ≡ lineIn (now (out .entry)) (misreadLine number place) ⌝ }
+{
+    let mut line = [0u8; ANY_ANSWER];
+    let n = put_misread(number, place, &mut line, 0);
+    lines::put_words(&line[..n], out, 0)
 }

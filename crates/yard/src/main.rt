@@ -1,5 +1,6 @@
-// The front door: answers, plans, judges, chooses and lists by file names. The first word of an answer is fixed, so that a script can go by it.
+// The front door: answers, plans, judges, chooses, lists and draws graphs by file names. The first word of an answer is fixed, so that a script can go by it.
 mod files;
+mod graphs;
 mod words;
 
 use libc::STDERR_FILENO;
@@ -30,6 +31,8 @@ enum Command {
     ByLevel,
     Judge,
     Choose,
+    Graph,
+    Table,
     Help,
     Version,
     Unknown,
@@ -74,6 +77,9 @@ fn plan_command_of(word: &[u8], count: usize) -> Command {
     if (count == 6 || count == 7) && same(word, b"choose") {
         return Command::Choose;
     }
+    if count == 5 && same(word, b"graph") {
+        return Command::Graph;
+    }
     Command::Unknown
 }
 
@@ -84,6 +90,9 @@ fn command_of(word: &[u8], count: usize) -> Command {
     }
     if count == 4 && same(word, b"list") {
         return Command::List;
+    }
+    if count == 4 && same(word, b"table") {
+        return Command::Table;
     }
     if count == 3 && same(word, b"--help") {
         return Command::Help;
@@ -209,6 +218,7 @@ fn words_to(what: Command) -> i32 {
     let is_plan = match what {
         Command::ByProbe => files::is_dash_argument(PLAN),
         Command::ByLevel => files::is_dash_argument(PLAN),
+        Command::Graph => files::is_dash_argument(PLAN),
         Command::Choose => files::is_dash_argument(OUT),
         _ => false,
     };
@@ -253,8 +263,17 @@ fn answer(what: Command) -> u8 {
         Command::ByLevel => plan_by_level(to, sheet),
         Command::Judge => judge(sheet),
         Command::Choose => choose(to, sheet),
+        Command::Graph => graphs::write_graph(to, PLAN, sheet),
         _ => FAILED,
     }
+}
+
+// A text is judged by itself, and everything else by a sheet.
+fn answer_or_show(what: Command) -> u8 {
+    if let Command::Table = what {
+        return graphs::show_table(SHEET);
+    }
+    answer(what)
 }
 
 // The exit status of what is asked for.
@@ -270,7 +289,7 @@ fn run() -> u8 {
             if is_dash_twice() {
                 return words::say_usage(STDERR_FILENO, FAILED);
             }
-            answer(what)
+            answer_or_show(what)
         }
     }
 }

@@ -29,7 +29,7 @@ pub(crate) fn say(to: i32, text: &[u8], status: u8) -> u8 {
     FAILED
 }
 
-// Says an answer about a sheet or a plan.
+// Says an answer about a sheet, a plan or a graph.
 pub(crate) fn say_answer(to: i32, text: &[u8], outcome: Outcome) -> u8 {
     if outcome.number == 0 {
         return say(to, text, ANSWERED);
@@ -92,8 +92,10 @@ pub(crate) fn say_usage(to: i32, status: u8) -> u8 {
             \x20      yard level SHEET PLAN              the plan by level, into the file PLAN\n\
             \x20      yard judge SHEET PLAN              whether the plan passes\n\
             \x20      yard choose SHEET PLAN PLAN [OUT]  the shorter of two plans that pass, also into the file OUT\n\
+            \x20      yard graph SHEET TEXT              the conflicts as a graph in the DIMACS format, into the file TEXT\n\
+            \x20      yard table TEXT                    a graph's text as a table\n\
             \x20      yard --help | --version            these lines, or the version\n\
-            One of the files may be -: standard input or, for a plan that is made, standard output.\n",
+            One of the files may be -: standard input or, for a plan or a text that is made, standard output.\n",
         status,
     )
 }

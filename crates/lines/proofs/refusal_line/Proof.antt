@@ -9,6 +9,9 @@ use Rattle.lines.proofs.refusal_line.Tie as tie
 cast-number : tie.Need-cast-number
 cast-number c = search needs
 
+cast-digits : tie.Need-cast-digits
+cast-digits c = search needs
+
 digits-requires : tie.Need-digits-requires
 digits-requires c κs = search needs
 
@@ -17,6 +20,9 @@ cast-need c = search needs
 
 add-need : tie.Need-add-need
 add-need c = search needs
+
+cast-digits-2 : tie.Need-cast-digits-2
+cast-digits-2 c = search needs
 
 digits-requires-2 : tie.Need-digits-requires-2
 digits-requires-2 c κs = search needs
@@ -69,9 +75,11 @@ refusal-line-spec =
     tie.close
     (tie.spec
     cast-number
+    cast-digits
     digits-requires
     cast-need
     add-need
+    cast-digits-2
     digits-requires-2
     cast-need-2
     add-need-2

@@ -13,6 +13,9 @@ Inv-loop senders room n around left₀ i₀ left i = (i ≤ length senders) × F
 abbrev μ-loop : tie.MeasureT-loop
 μ-loop senders room n around left₀ i₀ left i = length senders - i
 
+cast-digits : tie.Need-cast-digits Inv-loop μ-loop
+cast-digits c = search needs
+
 digits-requires : tie.Need-digits-requires Inv-loop μ-loop
 digits-requires c κs = search needs
 
@@ -31,8 +34,8 @@ loop-holds c = (omega arith, fits-start _ _ _ _ (c .before .digits .ensures .0) 
 number-at-requires : tie.Need-number-at-requires Inv-loop μ-loop
 number-at-requires c κs = search needs
 
-cast-digits : tie.Need-cast-digits Inv-loop μ-loop
-cast-digits c = search needs
+cast-digits-2 : tie.Need-cast-digits-2 Inv-loop μ-loop
+cast-digits-2 c = search needs
 
 digits-requires-2 : tie.Need-digits-requires-2 Inv-loop μ-loop
 digits-requires-2 c κs = search needs
@@ -76,13 +79,14 @@ slot-fits-spec =
     (tie.spec
     Inv-loop
     μ-loop
+    cast-digits
     digits-requires
     cast-around
     add-around
     returns
     loop-holds
     number-at-requires
-    cast-digits
+    cast-digits-2
     digits-requires-2
     cast-need
     add-need

@@ -17,6 +17,9 @@ returns c =
     let a = c .before .before .before .before .args in
     line-short _ (slotLine (a .number .0) (a .senders .now)) (slot-short _ _ _ _ (c .before .slot-fits .ensures) (c .if1 .taken))
 
+cast-put-digits : tie.Need-cast-put-digits
+cast-put-digits c = search needs
+
 put-digits-requires : tie.Need-put-digits-requires
 put-digits-requires c κs =
     let start = c .before .before .before .before .before .args in
@@ -76,6 +79,7 @@ slot-line-spec =
     (tie.spec
     slot-fits-requires
     returns
+    cast-put-digits
     put-digits-requires
     slice-aggregate-put-text
     put-text-requires

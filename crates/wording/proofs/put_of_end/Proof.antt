@@ -4,9 +4,10 @@ use native.Mathlib.Omega.{arith}
 use borrow.Author.Needs.{needs}
 use Rattle.meaning.specs.Lister.{text}
 use Rattle.wording.specs.Saying.{unknown, sayings, saying}
-use Rattle.wording.proofs.Saying.{put-words-of, put-unknown}
+use Rattle.wording.proofs.Saying.{put-words-of}
 use Rattle.wording.proofs.put_of_end.Statement.{statement}
 use Rattle.wording.proofs.put_of_end.Tie as tie
+use Rattle.lines.proofs.put_words.Reads as put-words-reads
 
 slice-aggregate-put-words : tie.Need-slice-aggregate-put-words
 slice-aggregate-put-words c = search needs
@@ -20,12 +21,6 @@ slice-aggregate-put-words-2 c = search needs
 put-words-requires-2 : tie.Need-put-words-requires-2
 put-words-requires-2 c κs = search needs
 
-slice-aggregate-put-words-3 : tie.Need-slice-aggregate-put-words-3
-slice-aggregate-put-words-3 c = search needs
-
-put-words-requires-3 : tie.Need-put-words-requires-3
-put-words-requires-3 c κs = search needs
-
 same-length : tie.Need-same-length
 same-length c = search needs
 
@@ -38,17 +33,10 @@ same-length-2 c = search needs
 
 returns-2 : tie.Need-returns-2
 unfolding text unknown sayings saying
-returns-2 c = put-words-of (c .before .before .before .before .before .match .keys2) refl (c .before .before .put-words2 .ensures)
-
-same-length-3 : tie.Need-same-length-3
-same-length-3 c = search needs
-
-returns-3 : tie.Need-returns-3
-unfolding text unknown sayings saying
-returns-3 c =
+returns-2 c =
     let rest = c .before .before .before .before .before in
-    put-unknown {number = rest .before .before .args .number} (omega (arith, rest .match .rest, rest .before .before .pre)) refl
-    (c .before .before .put-words3 .ensures)
+    put-words-of {number = rest .before .before .args .number} {k = 17} (omega (arith, rest .match .rest, rest .before .before .pre)) refl
+    (c .before .before .put-words2 .ensures)
 
 pub put-of-end-spec : {M : Type 1} → statement M
 put-of-end-spec =
@@ -58,11 +46,7 @@ put-of-end-spec =
     put-words-requires
     slice-aggregate-put-words-2
     put-words-requires-2
-    slice-aggregate-put-words-3
-    put-words-requires-3
     same-length
     returns
     same-length-2
-    returns-2
-    same-length-3
-    returns-3)
+    returns-2)

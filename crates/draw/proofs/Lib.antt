@@ -1,0 +1,4 @@
+-- Laws that belong to no one function.
+pub mod TextsPut
+pub mod GraphLong
+pub mod Made

@@ -1,0 +1,5 @@
+pub mod Part
+pub mod Lines
+pub mod Table
+pub mod Reading
+pub mod Drawing

@@ -1,0 +1,2 @@
+-- What the private functions' contracts cite.
+pub mod Vertices

@@ -1,0 +1,50 @@
+-- `wording::misread` meets its contract: the answer is made in a line of its own, which has room for any, and copied from there as a whole.
+use borrow.Author.Needs.{needs}
+use Rattle.wording.proofs.Long.{misread-most}
+use Rattle.wording.proofs.Wordings.{line-end, line-counts, answered}
+use Rattle.wording.proofs.misread.Statement.{statement}
+use Rattle.wording.proofs.misread.Tie as tie
+use Rattle.lines.proofs.put_words.Reads as put-words-reads
+use Rattle.wording.proofs.put_misread.Reads as put-misread-reads
+
+slice-aggregate-put-misread : tie.Need-slice-aggregate-put-misread
+slice-aggregate-put-misread c = search needs
+
+put-misread-requires : tie.Need-put-misread-requires
+put-misread-requires c κs = search needs
+
+array-share-prefix-line : tie.Need-array-share-prefix-line
+array-share-prefix-line c =
+    let put = c .before in
+    let a = put .before .before .before .args in
+    line-end (misread-most (a .number) (a .place)) (put .put-misread .ensures)
+
+slice-aggregate-put-words : tie.Need-slice-aggregate-put-words
+slice-aggregate-put-words c =
+    let put = c .before .before in
+    let a = put .before .before .before .args in
+    line-counts (misread-most (a .number) (a .place)) (put .put-misread .ensures)
+
+put-words-requires : tie.Need-put-words-requires
+put-words-requires c κs = search needs
+
+same-length : tie.Need-same-length
+same-length c = search needs
+
+returns : tie.Need-returns
+returns c =
+    let put = c .before .before .before .before .before .before in
+    let a = put .before .before .before .args in
+    answered (misread-most (a .number) (a .place)) (put .put-misread .ensures) (c .before .before .put-words .ensures)
+
+pub misread-spec : {M : Type 1} → statement M
+misread-spec =
+    tie.close
+    (tie.spec
+    slice-aggregate-put-misread
+    put-misread-requires
+    array-share-prefix-line
+    slice-aggregate-put-words
+    put-words-requires
+    same-length
+    returns)
