@@ -91,7 +91,7 @@ static void judgements(const char *name) {
   double ratio[MOST], best = 1e9, other_best = 1e9;
   size_t bytes = yard_by_probe(sheet, length, buf, YARD_PLAN_BYTES).bytes;
   yard_verdict a = yard_judge(sheet, length, buf, bytes), b = second_judge(sheet, length, buf, bytes);
-  if (a.number || b.number || a.place != b.place || a.slots != b.slots) printf("bench: the two judges differ on %s\n", name), exit(1);
+  if (a.number || b.number || a.place != b.place || a.slots != b.slots || a.first != b.first || a.second != b.second) printf("bench: the two judges differ on %s\n", name), exit(1);
   int calls = calls_for(judging(yard_judge, bytes, 1));
   for (int k = 0; k < turns; k++) {
     double x = judging(yard_judge, bytes, calls), z = judging(second_judge, bytes, calls);

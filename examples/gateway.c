@@ -1,5 +1,5 @@
 // How a gateway uses the library: it asks how long a reading takes, plans the sheet in a file both ways, sends the shorter plan slot by slot, has it judged,
-// logs the listing, and writes the conflicts for a colouring program. gateway SHEET
+// is told who spoils another plan, logs the listing, and writes the conflicts for a colouring program. gateway SHEET
 #include "yard.h"
 #include <inttypes.h>
 #include <stdio.h>
@@ -20,9 +20,13 @@ static void send_all(const uint8_t *plan, int slots) {
   }
 }
 
+// Of the numbers about a plan, 12 to 15 name senders of the slot.
 static void judge(const char *what, size_t length, const uint8_t *plan, size_t bytes) {
   yard_verdict verdict = yard_judge(sheet, length, plan, bytes);
-  printf("%s: number %d at %d, %d slots\n", what, verdict.number, verdict.place, verdict.slots);
+  printf("%s: number %d at %d, %d slots", what, verdict.number, verdict.place, verdict.slots);
+  if (verdict.number >= 12 && verdict.number <= 14) printf(", sender %d", verdict.first);
+  if (verdict.number == 15) printf(", senders %d and %d", verdict.first, verdict.second);
+  printf("\n");
 }
 
 // A graph's text read into rows: vertex 1 is probe 2, and stands in row 1 and bit 1 of each.
@@ -55,6 +59,9 @@ int main(int argc, char **argv) {
 
   judge("judged", length, plan, planned.bytes);
   judge("judged without its last byte", length, plan, planned.bytes - 1);
+  const uint8_t together[] = {0, 1, 2, 2, 4}, stranger[] = {0, 1, 2, 2, 200}; // one slot of two senders
+  judge("judged with 2 and 4 in one slot", length, together, sizeof together);
+  judge("judged with 2 and 200 in one slot", length, stranger, sizeof stranger);
   fwrite(text, 1, yard_list(sheet, length, text, YARD_TEXT_BYTES), stdout); // always the plan by probe
 
   yard_drawn drawn = yard_graph_write(sheet, length, graph, YARD_GRAPH_BYTES);

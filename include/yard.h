@@ -43,10 +43,15 @@ typedef struct {
 
 // What the judge answers. Passed: number and place are 0, and the plan has so many slots.
 // Refused: number is 1 to 8 for the sheet or 11 to 17 for the plan, place says where, and slots is 0.
+// 12 to 15 name senders of the slot, by their bytes. 12, 13 and 14: `first` is the first in slot order that is no probe, that is not above the one before
+// it, that holds no packet. 15: the lowest two that conflict, the smaller first, by the smaller and then the larger. A name that is not given is 0; but the
+// sender that 12 names may be 0 itself, so the number tells whether one is named.
 typedef struct {
   uint8_t number;
   uint16_t place;
   uint16_t slots;
+  uint8_t first;
+  uint8_t second;
 } yard_verdict;
 
 // What the telephone answers. Answered: number and place are 0; no plan that the judge passes has fewer slots than `least`, our plan by probe has
@@ -73,7 +78,7 @@ yard_planned yard_by_level(const uint8_t *sheet, size_t sheet_length, uint8_t *b
 yard_verdict yard_judge(const uint8_t *sheet, size_t sheet_length, const uint8_t *plan, size_t plan_length);
 
 // Chooses between two plans for a sheet. The caller gets 1 for the first, 2 for the second: the one that passes with fewer slots, the first when equal;
-// 0 where neither passes or the sheet is refused, and then the judge says why. Nothing is written.
+// 0 where neither passes or the sheet is refused; it names nobody, the judge says why and names the senders. Nothing is written.
 uint8_t yard_choose(const uint8_t *sheet, size_t sheet_length, const uint8_t *first, size_t first_length, const uint8_t *second, size_t second_length);
 
 // Lists a sheet: the plan by probe as text, or the line `refused N P`. The caller provides YARD_TEXT_BYTES for the text, whatever the sheet, and gets

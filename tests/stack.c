@@ -40,6 +40,13 @@ static void judged(size_t size) { bytes = size, measure(JUDGE), measure(CHOOSE);
 
 static void small_plan(const char *its_bytes, size_t size) { memcpy(plan, its_bytes, size), judged(size); }
 
+// Probe 64 sends once more than it has packets.
+static void sent_too_often(void) {
+  plan[0] = 0, plan[1] = 16;
+  for (int k = 1; k <= 16; k++) plan[2 * k] = 1, plan[2 * k + 1] = 64;
+  judged(34);
+}
+
 // Plans cut, too long and refused in each way, and last the longest that decide a verdict: empty slots behind ours, then one with too many senders.
 static void plans(size_t own, size_t slots) {
   judged(own), judged(own - 1), judged(own + 1);
@@ -48,7 +55,7 @@ static void plans(size_t own, size_t slots) {
   judged(size);
   plan[size - 1] = LAST_SLOT, memset(plan + size, 2, LAST_SLOT);
   judged(size + LAST_SLOT);
-  small_plan("\0\0", 2), small_plan("\0\1\1\1", 4), small_plan("\0\2\1\2\1\2", 6), small_plan("\0\1\2\2\3", 5);
+  small_plan("\0\0", 2), small_plan("\0\1\1\1", 4), small_plan("\0\2\1\2\1\2", 6), small_plan("\0\1\2\2\3", 5), sent_too_often();
 }
 
 static void read_text(size_t size) { text_bytes = size, measure(GRAPH_READ); }

@@ -12,10 +12,14 @@ enum { NODES = 65, MOST_SHEET = 5000, MOST_PLAN = 300000, MOST_TEXT = 200000, MO
 // Where a graph's text is refused: nowhere in it, in its first line, between, in its last, or behind line 65,535.
 enum { NOWHERE, FIRST, BETWEEN, LAST, FAR, PLACES };
 
+// Other orders of search, which may name others in a refused slot: backwards, so that the last offender or the highest two are named, and one more for each number.
+enum { BACKWARDS, OTHERWISE, ORDERS };
+
 static unsigned char sheet[MOST_SHEET], got[YARD_TEXT_BYTES + 8], want[YARD_TEXT_BYTES + 8], plan[2][MOST_PLAN], own[YARD_PLAN_BYTES];
 static unsigned char sheet_lent[MOST_SHEET], plan_lent[2][MOST_PLAN];
 static unsigned char text[MOST_TEXT], text_lent[MOST_TEXT];
 static long sheets, yards, relayed, plannings, plans, listings, asked, drawings, texts, numbers[NUMBERS], placed[NUMBERS][PLACES];
+static long blamed, ordered, ordered_by[NUMBERS][ORDERS];
 
 // ---- chance
 
@@ -68,7 +72,9 @@ static int same_plan(yard_planned a, yard_planned b) {
   return a.number == b.number && a.place == b.place && a.colours == b.colours && a.slots == b.slots && a.bytes == b.bytes;
 }
 
-static int same_verdict(yard_verdict a, yard_verdict b) { return a.number == b.number && a.place == b.place && a.slots == b.slots; }
+static int same_verdict(yard_verdict a, yard_verdict b) {
+  return a.number == b.number && a.place == b.place && a.slots == b.slots && a.first == b.first && a.second == b.second;
+}
 
 static size_t compare_planner(size_t len, int by_level, size_t room) {
   lend(len, 0, 0);
@@ -81,11 +87,64 @@ static size_t compare_planner(size_t len, int by_level, size_t room) {
   return b.bytes;
 }
 
-// The first bytes of a plan decide its verdict (docs/DECISIONS.md), so a plan that goes on is judged by them as well.
+static int held[NODES];
+static uint64_t conflicts[64]; // as second_conflicts has them
+
+static int conflict(int a, int b) { return conflicts[a - 1] >> (b - 1) & 1; }
+
+// Where a slot of a plan begins, those before it having passed; held is then what each node holds before it.
+static size_t come_to(const unsigned char *from, int place) {
+  size_t at = 2;
+  memset(held, 0, sizeof held);
+  for (int v = 2; v <= sheet[0] + 1; v++) held[v] = sheet[2 * v - 2];
+  for (; place > 1; place--)
+    for (int many = from[at++]; many > 0; many--, at++) held[from[at]]--, held[sheet[2 * from[at] - 3]]++;
+  return at;
+}
+
+static int is_probe(int v) { return v >= 2 && v <= sheet[0] + 1; }
+
+// Whom other orders name for 12, 13 or 14, -1 for nobody. Otherwise: for 12 the lowest, for 13 the earlier of two, for 14 the first that the sheet gives no packet.
+static void who_else(const unsigned char *who, int many, int number, int *other) {
+  for (int i = 0; i < many; i++) {
+    int v = who[i], is_first = other[OTHERWISE] < 0, falls = i > 0 && v <= who[i - 1];
+    if (number == 12 ? !is_probe(v) : number == 13 ? falls : held[v] == 0) other[BACKWARDS] = v;
+    if (number == 12 && !is_probe(v) && (is_first || v < other[OTHERWISE])) other[OTHERWISE] = v;
+    if (number == 13 && falls && is_first) other[OTHERWISE] = who[i - 1];
+    if (number == 14 && sheet[2 * v - 2] == 0 && is_first) other[OTHERWISE] = v;
+  }
+}
+
+// Which two they name for 15, as one number. Otherwise: the lowest by the larger and then the smaller.
+static void which_else(const unsigned char *who, int many, int *other) {
+  for (int j = 0; j < many; j++)
+    for (int i = 0; i < j; i++) {
+      int two = 256 * who[i] + who[j];
+      if (!conflict(who[i], who[j])) continue;
+      if (two > other[BACKWARDS]) other[BACKWARDS] = two;
+      if (other[OTHERWISE] < 0) other[OTHERWISE] = two;
+    }
+}
+
+static void count_orders(size_t len, const unsigned char *from, yard_verdict r) {
+  int other[ORDERS] = {-1, -1}, ours = r.number == 15 ? 256 * r.first + r.second : r.first, differs = 0;
+  const unsigned char *slot = from + come_to(from, r.place);
+  second_conflicts(sheet, len, conflicts);
+  if (r.number == 15) which_else(slot + 1, slot[0], other);
+  else who_else(slot + 1, slot[0], r.number, other);
+  for (int k = 0; k < ORDERS; k++)
+    if (other[k] >= 0 && other[k] != ours) ordered_by[r.number][k]++, differs = 1;
+  blamed++, ordered += differs;
+}
+
+// The first bytes of a plan decide its verdict (docs/DECISIONS.md), so a plan that goes on is judged by them as well. Only 12 to 15 name anyone, and only 15 two.
 static yard_verdict compare_judge(size_t len, int which, size_t size) {
   yard_verdict a = yard_judge(sheet, len, plan[which], size), b = second_judge(sheet, len, plan[which], size);
+  int names = b.number == 15 ? 2 : b.number >= 12 && b.number <= 14;
   plans++, numbers[b.number]++;
   if (!same_verdict(a, b)) differ("judge", len, 0, which ? 0 : size, which ? size : 0);
+  if ((names < 1 && a.first) || (names < 2 ? a.second != 0 : a.second <= a.first)) differ("judge's names", len, 0, which ? 0 : size, which ? size : 0);
+  if (names) count_orders(len, plan[which], b);
   if (size > YARD_JUDGED_BYTES && !same_verdict(a, yard_judge(sheet, len, plan[which], YARD_JUDGED_BYTES))) differ("judge of the deciding bytes", len, 0, which ? 0 : size, which ? size : 0);
   return b;
 }
@@ -278,6 +337,121 @@ static size_t some_plan(unsigned char *to, size_t size) {
   if (how == 1) return most_slots(to, size);
   if (how == 2) return sheet[0] ? crowd(to, size, sheet[0] + 1) : size;
   return how < 7 ? damage(to, size, MOST_PLAN - 140000) : size;
+}
+
+// ---- refused slots; whom each names is told by how it is made, so that the second reading is tried too
+
+static unsigned char slot[255];
+static int senders;
+
+static int some_probe(void) { return 2 + (int)rnd(sheet[0]); }
+
+// The gateway, 0, and what is above the last probe.
+static int stranger(void) {
+  int above = sheet[0] + 2, others[] = {0, 1, above, 200, above + (int)rnd(256 - (uint32_t)above)};
+  return others[rnd(5)];
+}
+
+// How many more senders stand behind `many`: few, or up to as many as a slot can count.
+static int some_more(int many) { return (int)rnd(rnd(8) && many < 250 ? 5 : 256 - (uint32_t)many); }
+
+// Probes in any order up to the first stranger, and then anybody.
+static yard_verdict strangers(void) {
+  int at = sheet[0] ? some_more(1) : 0;
+  senders = at + 1 + some_more(at + 1);
+  for (int i = 0; i < senders; i++) slot[i] = (unsigned char)(i == at || sheet[0] == 0 || (i > at && rnd(2)) ? stranger() : some_probe());
+  return (yard_verdict){.number = 12, .first = slot[at]};
+}
+
+// Rising probes, then one that is not above the last of them, and then any.
+static yard_verdict falling(void) {
+  int last = some_probe();
+  slot[0] = (unsigned char)last, senders = 1;
+  for (int v = last + 1; v <= sheet[0] + 1; v++)
+    if (rnd(3) == 0) last = v, slot[senders++] = (unsigned char)v;
+  unsigned char lower = (unsigned char)(rnd(3) ? 2 + (int)rnd((uint32_t)last - 1) : last);
+  slot[senders++] = lower;
+  for (int more = some_more(senders); more > 0; more--) slot[senders++] = (unsigned char)some_probe();
+  return (yard_verdict){.number = 13, .first = lower};
+}
+
+static void send_chosen(const uint8_t *chosen) {
+  senders = 0;
+  for (int v = 2; v <= sheet[0] + 1; v++)
+    if (chosen[v]) slot[senders++] = (unsigned char)v;
+}
+
+// One without a packet, some before it that hold one, and anybody behind it.
+static yard_verdict without(void) {
+  uint8_t chosen[NODES] = {0};
+  int empty = 0;
+  uint32_t of = 0; // so many to take one of, each alike
+  for (int v = 2; v <= sheet[0] + 1; v++)
+    if (held[v] == 0 && rnd(++of) == 0) empty = v;
+  if (empty == 0) return falling();
+  for (int v = 2; v <= sheet[0] + 1; v++) chosen[v] = v == empty || ((v > empty || held[v] > 0) && rnd(2));
+  send_chosen(chosen);
+  return (yard_verdict){.number = 14, .first = (uint8_t)empty};
+}
+
+// Two that conflict, often far from each other, and others that hold a packet too, where every conflict that they bring is of a higher pair.
+static yard_verdict conflicting(void) {
+  uint8_t chosen[NODES] = {0};
+  int a = 0, b = 0, far = rnd(4) > 0;
+  uint32_t of = 0; // so many to take one of, each alike
+  for (int x = 2; x <= sheet[0] + 1; x++)
+    for (int z = x + 1; z <= sheet[0] + 1; z++)
+      if (held[x] > 0 && held[z] > 0 && conflict(x, z) && (far ? z - x > b - a : rnd(++of) == 0)) a = x, b = z;
+  if (a == 0) return without();
+  chosen[a] = chosen[b] = 1;
+  for (int v = 2; v <= sheet[0] + 1; v++) {
+    int joins = held[v] > 0 && rnd(4);
+    for (int u = 2; u <= sheet[0] + 1; u++) {
+      int low = u < v ? u : v, high = u < v ? v : u;
+      if (chosen[u] && conflict(u, v) && (low < a || (low == a && high < b))) joins = 0;
+    }
+    chosen[v] |= joins;
+  }
+  send_chosen(chosen);
+  return (yard_verdict){.number = 15, .first = (uint8_t)a, .second = (uint8_t)b};
+}
+
+static yard_verdict (*const refusals[])(void) = {strangers, falling, without, without, conflicting, conflicting};
+
+// Our own plan with the slot put in where another begins, or behind the last; its length.
+static size_t put_slot(size_t bytes, size_t at) {
+  memcpy(plan[0], own, at), plan[0][at] = (unsigned char)senders, memcpy(plan[0] + at + 1, slot, (size_t)senders);
+  memcpy(plan[0] + at + 1 + senders, own + at, bytes - at), put_count(plan[0], own[0] * 256 + own[1] + 1);
+  return bytes + 1 + (size_t)senders;
+}
+
+// Such a slot in our own plan. A refused sheet comes before it, and so does 11 where senders are missing; both name nobody.
+static void compare_names(size_t len, size_t bytes) {
+  if (bytes < 2) bytes = 2, put_count(own, 0);
+  yard_verdict wanted = second_judge(sheet, len, own, 0); // 11, or what is wrong with the sheet
+  int is_yard = wanted.number == 11, place = 1 + (rnd(2) ? 0 : (int)rnd(own[0] * 256u + own[1] + 1));
+  size_t at = is_yard ? come_to(own, place) : 2;
+  if (is_yard) second_conflicts(sheet, len, conflicts), wanted = refusals[sheet[0] ? rnd(6) : 0](), wanted.place = (uint16_t)place;
+  else slot[0] = slot[1] = 2, slot[2] = 200, senders = 3;
+  size_t size = put_slot(bytes, at);
+  if (is_yard && rnd(8) == 0) size = at + 1 + rnd((uint32_t)senders), wanted = (yard_verdict){.number = 11, .place = (uint16_t)place};
+  lend(len, size, 0);
+  if (!same_verdict(compare_judge(len, 0, size), wanted)) differ("whom a refused slot names", len, 0, size, 0);
+  unchanged(len, size, 0);
+}
+
+// Every slot of at most four of these bytes, first and then behind another, in the worked yard of docs/RULES.md.
+static void slot_by_slot(void) {
+  static const unsigned char worked[] = {5, 1, 1, 1, 1, 3, 1, 3, 1, 2, 1, 0, 1, 2, 5}, bytes[] = {0, 1, 2, 3, 4, 5, 6, 7, 200}, before[] = {0, 2, 2, 3, 6};
+  memcpy(sheet, worked, sizeof worked);
+  for (int all = 1, size = 0; size <= 4; all *= 9, size++)
+    for (int which = 0; which < all; which++)
+      for (int alone = 0; alone < 2; alone++) {
+        size_t at = alone ? 2 : sizeof before;
+        memcpy(plan[0], before, sizeof before), plan[0][1] = alone ? 1 : 2, plan[0][at++] = (unsigned char)size;
+        for (int k = 0, left = which; k < size; k++, left /= 9) plan[0][at++] = bytes[left % 9];
+        compare_judge(sizeof worked, 0, at);
+      }
 }
 
 // ---- good and damaged texts of graphs; what the rules say of each is told by how it is made, so that the second reading is tried too
@@ -572,6 +746,7 @@ static void compare(long want_yards, long want_plans) {
         size_t first = some_plan(plan[0], bytes), second = some_plan(plan[1], bytes);
         compare_plans(len, first, second);
       }
+      compare_names(len, bytes);
     }
     compare_listing(len, rnd(16) ? YARD_TEXT_BYTES : YARD_TEXT_BYTES - 1), compare_told(len), compare_graphs(len);
   }
@@ -626,6 +801,14 @@ static void enough(void) {
     if (k != 10 && numbers[k] < ENOUGH) printf("number %d was met only %ld times\n", k, numbers[k]), exit(1);
 }
 
+// So is, for each number that names someone, a slot in which another order would name another.
+static void enough_orders(void) {
+  static const char *const names[] = {"backwards", "otherwise"};
+  for (int k = 12; k < 16; k++)
+    for (int order = 0; order < ORDERS; order++)
+      if (ordered_by[k][order] < ENOUGH) printf("number %d searched %s named another only %ld times\n", k, names[order], ordered_by[k][order]), exit(1);
+}
+
 // So is every place of each of the reader's numbers; 0 and 20 have none in the text, and 19 has a `p` line before it.
 static void enough_places(void) {
   static const char *const names[] = {"nowhere", "in the first line", "between", "in the last line", "behind line 65,535"};
@@ -669,13 +852,17 @@ static void show_sheet(size_t len, size_t room) {
   show_graph("library draws", yard_graph_write(sheet, len, got, room)), show_graph("second draws", second_graph_write(sheet, len, got, room));
 }
 
+static void show_verdict(const char *path, const char *name, yard_verdict r) {
+  printf("%s: %s %d at %d, %d slots, names %d and %d\n", path, name, r.number, r.place, r.slots, r.first, r.second);
+}
+
 static void show(int argc, char **argv) {
   size_t room = strtoul(argv[2], 0, 10), len = load(argv[3], sheet, MOST_SHEET), size[2] = {0, 0};
   show_sheet(len, room < YARD_PLAN_BYTES ? room : YARD_PLAN_BYTES);
   for (int k = 0; k < 2 && k + 4 < argc; k++) {
     size[k] = load(argv[k + 4], plan[k], MOST_PLAN);
     yard_verdict a = yard_judge(sheet, len, plan[k], size[k]), b = second_judge(sheet, len, plan[k], size[k]);
-    printf("%s: library %d at %d, %d slots; second %d at %d, %d slots\n", argv[k + 4], a.number, a.place, a.slots, b.number, b.place, b.slots);
+    show_verdict(argv[k + 4], "library", a), show_verdict(argv[k + 4], "second", b);
   }
   if (argc == 6)
     printf("chosen: library %d, second %d\n", yard_choose(sheet, len, plan[0], size[0], plan[1], size[1]), second_choose(sheet, len, plan[0], size[0], plan[1], size[1]));
@@ -699,11 +886,13 @@ int main(int argc, char **argv) {
   state = strtoull(argv[1], 0, 10) * 2 + 1;
   yards_to_try();
   sizes();
-  byte_by_byte(), long_texts();
+  slot_by_slot(), byte_by_byte(), long_texts();
   compare(atol(argv[2]), atol(argv[3]));
-  if (yards >= 20000) enough(), enough_places();
+  if (yards >= 20000) enough(), enough_orders(), enough_places();
   printf("%ld yards, %ld of them with relays, and %ld refused sheets, %ld plannings, %ld listings, %ld telephone answers and %ld judged plans agree; by number:", yards, relayed, sheets - yards, plannings, listings, asked, plans);
   for (int k = 0; k < NUMBERS; k++) printf(" %d: %ld", k, numbers[k]);
+  printf("\n%ld refused plans name senders, and in %ld of them another order would name others; backwards, otherwise:", blamed, ordered);
+  for (int k = 12; k < 16; k++) printf(" %d: %ld %ld", k, ordered_by[k][BACKWARDS], ordered_by[k][OTHERWISE]);
   printf("\n%ld graphs written and %ld texts read agree; accepted: %ld; refused nowhere, in the first line, between, in the last, behind line 65,535:", drawings, texts, placed[0][NOWHERE]);
   for (int k = 18; k < 21; k++) {
     printf(" %d:", k);

@@ -26,11 +26,13 @@ fn choose_by(first: Verdict, second: Verdict) -> Choice
     Choice::Second
 }
 
-// Which of two plans is the passed one with fewer slots.
+// Which of two plans is the passed one with fewer slots; whom the judgements name is dropped, since a choice blames nobody.
 pub fn choice(sheet: &[u8], first: &[u8], second: &[u8]) -> Choice
     ensures { λ r. ⌜ r ≡ choice (now (sheet .entry)) (now (first .entry)) (now (second .entry)) ⌝ }
 {
-    choose_by(judge::judge(sheet, first), judge::judge(sheet, second))
+    let on_first = judge::judgement(sheet, first);
+    let on_second = judge::judgement(sheet, second);
+    choose_by(on_first.verdict, on_second.verdict)
 }
 
 // That plan itself; the empty part at the start of the first where none passes.

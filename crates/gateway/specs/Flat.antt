@@ -1,7 +1,7 @@
 -- The answers of RULES, "Numbers returned", "The telephone" and "A graph as text", as C sees them.
 use Prim.Native.Nat.{ℕ}
 use Rattle.meaning.specs.declared.Planned.{Planned}
-use Rattle.meaning.specs.declared.Verdict.{Verdict}
+use Rattle.meaning.specs.declared.Judgement.{Judgement}
 use Rattle.meaning.specs.declared.Told.{Told}
 use Rattle.meaning.specs.declared.Choice.{Choice}
 use Rattle.meaning.specs.declared.Choice.the-variants.{Neither, First, Second}
@@ -18,9 +18,17 @@ abbrev pub flatPlanned : Planned → YardPlanned
 flatPlanned r =
     record { number = r .outcome .number; place = r .outcome .place; colours = r .colours; slots = r .slots; bytes = r .bytes }
 
--- "Numbers returned": number, place and slots
-abbrev pub flatVerdict : Verdict → YardVerdict
-flatVerdict r = record { number = r .outcome .number; place = r .outcome .place; slots = r .slots }
+-- "Numbers returned", "Whom a refusal names": number, place, slots and both names
+abbrev pub flatVerdict : Judgement → YardVerdict
+flatVerdict r =
+    let verdict = r .verdict in
+    record {
+      number = verdict .outcome .number;
+      place = verdict .outcome .place;
+      slots = verdict .slots;
+      first = r .names .first;
+      second = r .names .second;
+    }
 
 -- Demand 3, on the telephone: number, place, and the slots at least, in our plan and at most
 abbrev pub flatTold : Told → YardTold

@@ -6,7 +6,7 @@ ghost use lib.ListN.{length, getD};
 ghost use Rattle.meaning.specs.Plan.{front};
 ghost use Rattle.meaning.specs.Rounds.{byProbe, byLevel};
 ghost use Rattle.meaning.specs.Answer.{planMade};
-ghost use Rattle.meaning.specs.Judge.{judge, choice};
+ghost use Rattle.meaning.specs.Judge.{judgement, choice};
 ghost use Rattle.meaning.specs.Telephone.{asked};
 ghost use Rattle.listing.specs.Listed.{listedLength, listedIn};
 ghost use Rattle.graph.specs.Drawing.{graphMade};
@@ -16,9 +16,9 @@ ghost use Rattle.gateway.specs.Rows.{word, rowWords};
 use graph::Drawn;
 use graph::Graph;
 use meaning::Choice;
+use meaning::Judgement;
 use meaning::Planned;
 use meaning::Told;
-use meaning::Verdict;
 
 // What a planner answers, with C's layout.
 #[repr(C)]
@@ -36,6 +36,8 @@ pub struct YardVerdict {
     pub number: u8,
     pub place: u16,
     pub slots: u16,
+    pub first: u8,
+    pub second: u8,
 }
 
 // What the telephone answers, with C's layout.
@@ -77,14 +79,18 @@ fn planned(r: Planned) -> YardPlanned
     }
 }
 
-fn verdict(r: Verdict) -> YardVerdict
+fn verdict(r: Judgement) -> YardVerdict
     ensures { λ f. ⌜ f ≡ flatVerdict r ⌝ }
 {
-    let outcome = r.outcome;
+    let judged = r.verdict;
+    let outcome = judged.outcome;
+    let names = r.names;
     YardVerdict {
         number: outcome.number,
         place: outcome.place,
-        slots: r.slots,
+        slots: judged.slots,
+        first: names.first,
+        second: names.second,
     }
 }
 
@@ -186,16 +192,16 @@ pub extern "C" fn yard_by_level(sheet: &[u8], buf: &mut [u8]) -> YardPlanned
     planned(r)
 }
 
-// The judge.
+// The judge, with whom it names.
 #[no_mangle]
 pub extern "C" fn yard_judge(sheet: &[u8], plan: &[u8]) -> YardVerdict
-    ensures { λ r. ⌜ r ≡ flatVerdict (judge (now (sheet .entry)) (now (plan .entry))) ⌝ }
+    ensures { λ r. ⌜ r ≡ flatVerdict (judgement (now (sheet .entry)) (now (plan .entry))) ⌝ }
 {
-    let r = judge::judge(sheet, plan);
+    let r = judge::judgement(sheet, plan);
     verdict(r)
 }
 
-// The chooser: which plan, since no reference is handed back across C.
+// The chooser: which plan, since no reference is handed back across C. It names nobody.
 #[no_mangle]
 pub extern "C" fn yard_choose(sheet: &[u8], first: &[u8], second: &[u8]) -> u8
     ensures { λ r. ⌜ r ≡ choiceNumber (choice (now (sheet .entry)) (now (first .entry)) (now (second .entry))) ⌝ }

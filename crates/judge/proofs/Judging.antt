@@ -2,6 +2,7 @@
 use mathlib.Core.Path.{_≡_, refl, sym, ap, ap₂, _∙_, subst₃}
 use mathlib.Core.Bool.{Bool, true, false, cond}
 use mathlib.Core.List.{List}
+use mathlib.Core.Logic.{_⊎_, inl}
 use Prim.Native.Nat.{ℕ, _≤_, _<_}
 use native.Mathlib.Omega.{arith}
 use borrow.Author.Tests.{lt-ltb, le-ltb, eq-eqb, ne-eqb}
@@ -9,18 +10,22 @@ use lib.Dec.{ltb}
 use lib.ListN.{length, getD}
 use Rattle.meaning.specs.declared.Outcome.{Outcome}
 use Rattle.meaning.specs.declared.Verdict.{Verdict}
+use Rattle.meaning.specs.declared.Names.{Names}
+use Rattle.meaning.specs.declared.Tested.{Tested}
+use Rattle.meaning.specs.declared.Judgement.{Judgement}
 use Rattle.meaning.specs.Words.{tab, places}
 use Rattle.meaning.specs.Sheet.{twoAt, probeCount, pairCount, pairRecords, parentOf, packetsOf, interfere}
 use Rattle.meaning.specs.Conflict.{entry, tableOf, conflict, conflictTable}
 use Rattle.meaning.specs.Rounds.{outside}
 use Rattle.meaning.specs.Answer.{accepted, isAccepted, given, _then_, sheetTest}
 use Rattle.meaning.specs.Legal.{Good}
-use Rattle.meaning.specs.Judge.{Judging, slotsJudged, planJudgedBy, planJudged, judge}
+use Rattle.meaning.specs.Judge.{nobody, Judging, slotsJudged, slotsDone, planJudgedBy, planJudged, judge, namesAt, planNamesBy, planNames, judgement}
 use Rattle.laws.proofs.Turns.{length-tab}
 use Rattle.laws.proofs.Accepted.{then-stays, then-goes}
 use Rattle.laws.proofs.Grounds.{few-probes, few-packets, parent-node}
 use Rattle.laws.proofs.Walk.{not-both}
 use Rattle.laws.proofs.Exact.{passed-good, good-passed}
+use Rattle.laws.proofs.Naming.{names-else}
 use Rattle.laws.specs.Few.{atMost63}
 use Rattle.laws.proofs.Few.{as-many}
 use Rattle.sheet.specs.declared.Tree.{Tree}
@@ -36,13 +41,22 @@ module _ (p : ℕ) (parent : ℕ → ℕ) (relation : ℕ → ℕ → Bool) (pac
   behind : Judging → Outcome
   behind now = (now .outcome) then given 16 (twoAt plan 0) (ltb (now .at) (length plan)) then given 17 (twoAt plan 0) (outside p (now .held))
 
+  done : come o at held ≡ slotsDone p parent relation packets plan
+  done = end ∙ ap₂ (λ (n : ℕ) (l : List ℕ). slotsJudged p parent relation plan n (judgingFrom 2 l)) manyIs startIs
+
   staged : behind (come o at held) ≡ planJudgedBy p parent relation packets plan
   unfolding planJudgedBy behind
-  staged = ap behind (end ∙ ap₂ (λ (n : ℕ) (l : List ℕ). slotsJudged p parent relation plan n (judgingFrom 2 l)) manyIs startIs)
+  staged = ap behind done
 
   pub slots-decide : (o .number ≡ 0 → ⊥) → o ≡ planJudgedBy p parent relation packets plan
   unfolding behind
   slots-decide some = sym (then-stays o _ (ne-eqb (o .number) 0 some)) ∙ staged
+
+  -- and whom the slots' number names is named
+  pub slots-name : (names : Names) (number : ℕ) → names ≡ namesAt p relation plan (come o at held) number
+      → names ≡ planNamesBy p parent relation packets plan number
+  unfolding planNamesBy
+  slots-name names number e = e ∙ ap (λ (now : Judging). namesAt p relation plan now number) done
 
   module _ (none : o .number ≡ 0) where
     -- 16
@@ -74,6 +88,16 @@ module _ (p : ℕ) (parent : ℕ → ℕ) (relation : ℕ → ℕ → Bool) (pac
           simp (eq-eqb (o .number) 0 none, le-ltb at (length plan) all, sym left-read ∙ none-left)
           in
           is ∙ here ∙ staged
+
+-- 16, 17 and what passes name nobody
+pub unnamed-plan : (p : ℕ) (parent : ℕ → ℕ) (relation : ℕ → ℕ → Bool) (packets plan : List ℕ) (t : Tested) (number place : ℕ)
+    → t ≡ record { outcome = record { number = number; place = place }; names = nobody } → (number < 12) ⊎ (15 < number)
+    → t .names ≡ planNamesBy p parent relation packets plan (t .outcome .number)
+unfolding planNamesBy
+unnamed-plan p parent relation packets plan t number place is else =
+    ap (λ (x : Tested). x .names) is
+    ∙ sym (names-else p relation _ _ number else)
+    ∙ ap (λ (x : Tested). namesAt p relation plan (slotsDone p parent relation packets plan) (x .outcome .number)) (sym is)
 
 meant : (s plan : List ℕ) → planJudgedBy (probeCount s) (parentOf s) (entry (conflictTable s)) (tab places (packetsOf s)) plan ≡ planJudged s plan
 unfolding planJudgedBy planJudged
@@ -111,6 +135,16 @@ module _ (s : List ℕ) (tree : Tree) (is : tree ≡ treeOf s) (none : tree .out
       ∙ ap₂ (λ (t : List (List Bool)) (l : List ℕ). planJudgedBy (probeCount s) (parentOf s) (entry t) l plan)
       (conflicts-read s sheet-accepted tree its table made) (its .packets)
       ∙ meant s plan
+
+  pub names-read : (table : List (List Bool)) (plan : List ℕ) (names : Names) (number : ℕ)
+      → table ≡ tableOf (conflict (tree .probes) (λ v. getD (tree .parents) v 0) (interfere (pairRecords s) (pairCount s)))
+      → names ≡ planNamesBy (tree .probes) (λ u. getD (tree .parents) u 0) (entry table) (tree .packets) plan number → names ≡ planNames s plan number
+  unfolding planNames
+  names-read table plan names number made answer =
+      answer
+      ∙ ap₂ (λ (p : ℕ) (up : ℕ → ℕ). planNamesBy p up (entry table) (tree .packets) plan number) (its .probes) parent
+      ∙ ap₂ (λ (t : List (List Bool)) (l : List ℕ). planNamesBy (probeCount s) (parentOf s) (entry t) l plan number)
+      (conflicts-read s sheet-accepted tree its table made) (its .packets)
 
 -- the verdict
 module _ (s plan : List ℕ) where
@@ -166,21 +200,51 @@ module _ (s plan : List ℕ) where
       pub plan-passes : (many : ℕ) → many ≡ twoAt plan 0 → o .number ≡ 0 → record { outcome = o; slots = many } ≡ judge s plan
       plan-passes many manyIs none = passes o many manyIs none ∙ ap verdict whole-answer ∙ judged
 
+-- the judgement: the verdict, and beside it the names
+module _ (s plan : List ℕ) where
+  abbrev named : Bool → ℕ → Names
+  named sheet number = cond sheet (planNames s plan number) nobody
+
+  with-names : (v : Verdict) (names : Names) → v ≡ judge s plan → names ≡ named (isAccepted (sheetTest s)) (v .outcome .number)
+      → record { verdict = v; names = names } ≡ judgement s plan
+  unfolding judgement
+  with-names v names is e =
+      ap₂ (λ (x : Verdict) (n : Names). record { verdict = x; names = n }) is
+      (e ∙ ap (λ (x : Verdict). named (isAccepted (sheetTest s)) (x .outcome .number)) is)
+
+  -- a refused sheet names nobody
+  pub names-sheet : (v : Verdict) → v ≡ judge s plan → isAccepted (sheetTest s) ≡ false → record { verdict = v; names = nobody } ≡ judgement s plan
+  names-sheet v is refused = with-names v nobody is (ap (λ (b : Bool). named b (v .outcome .number)) (sym refused))
+
+  module _ (accepted-sheet : isAccepted (sheetTest s) ≡ true) where
+    pub names-plan : (v : Verdict) (names : Names) → v ≡ judge s plan → names ≡ planNames s plan (v .outcome .number)
+        → record { verdict = v; names = names } ≡ judgement s plan
+    names-plan v names is e = with-names v names is (e ∙ ap (λ (b : Bool). named b (v .outcome .number)) (sym accepted-sheet))
+
+    -- nor does a count that is cut
+    pub names-count : (v : Verdict) → v ≡ judge s plan → v .outcome .number ≡ 11 → record { verdict = v; names = nobody } ≡ judgement s plan
+    unfolding planNames planNamesBy
+    names-count v is e = names-plan v nobody is (sym (names-else _ _ _ _ (v .outcome .number) (inl (omega (arith, e)))))
+
 -- the answer is exact, whatever is said of the plan's first two bytes where it passes
-module _ (s plan : List ℕ) (r : Verdict) (is : r ≡ judge s plan) where
+module _ (s plan : List ℕ) (r : Judgement) (is : r ≡ judgement s plan) where
   abbrev pub Answered : Type 0
   Answered =
-      (r ≡ judge s plan) × ((isAccepted (r .outcome) ≡ true → Good s plan) × (Good s plan → isAccepted (r .outcome) ≡ true))
+      (r ≡ judgement s plan) × ((isAccepted (r .verdict .outcome) ≡ true → Good s plan) × (Good s plan → isAccepted (r .verdict .outcome) ≡ true))
 
-  pub exactly : (isAccepted (r .outcome) ≡ true → (getD plan 0 0 < 256) × (getD plan 1 0 < 256)) → Answered
+  passing : isAccepted (r .verdict .outcome) ≡ isAccepted (judge s plan .outcome)
+  unfolding judgement
+  passing = ap (λ (j : Judgement). isAccepted (j .verdict .outcome)) is
+
+  pub exactly : (isAccepted (r .verdict .outcome) ≡ true → (getD plan 0 0 < 256) × (getD plan 1 0 < 256)) → Answered
   exactly bytes = (
     is,
     (
-      λ h. let two = bytes h in passed-good s plan (two .0) (two .1) (sym (ap (λ (v : Verdict). isAccepted (v .outcome)) is) ∙ h),
-      λ good. ap (λ (v : Verdict). isAccepted (v .outcome)) (is ∙ good-passed s plan good),
+      λ h. let two = bytes h in passed-good s plan (two .0) (two .1) (sym passing ∙ h),
+      λ good. passing ∙ ap (λ (v : Verdict). isAccepted (v .outcome)) (good-passed s plan good),
     ),
   )
 
   -- what is refused passes nothing
-  pub exactly-refused : (o : Outcome) → r ≡ refusedVerdict o → isAccepted o ≡ false → Answered
-  exactly-refused o answer refused = exactly (λ h. not-both h (ap (λ (v : Verdict). isAccepted (v .outcome)) answer ∙ refused))
+  pub exactly-refused : isAccepted (r .verdict .outcome) ≡ false → Answered
+  exactly-refused refused = exactly (λ h. not-both h refused)

@@ -2,18 +2,19 @@
 use mathlib.Core.Path.{_≡_, sym, ap, ap₂, _∙_}
 use mathlib.Core.Bool.{Bool, true}
 use mathlib.Core.List.{List}
-use mathlib.Core.Logic.{_⊎_, ⊎-elim}
+use mathlib.Core.Logic.{_⊎_, inl, ⊎-elim}
 use Prim.Native.Nat.{ℕ, _≤_, _<_}
 use native.Mathlib.Omega.{arith}
 use borrow.Author.Tests.{lt-ltb, le-ltb, eq-eqb, ne-eqb}
 use lib.Dec.{ltb}
 use lib.ListN.{length}
 use Rattle.meaning.specs.declared.Outcome.{Outcome}
+use Rattle.meaning.specs.declared.Tested.{Tested}
 use Rattle.meaning.specs.Words.{places}
 use Rattle.meaning.specs.Rounds.{moved}
 use Rattle.meaning.specs.Answer.{isAccepted, given, _then_}
 use Rattle.meaning.specs.Plan.{nextAt, sendersAt}
-use Rattle.meaning.specs.Judge.{slotTest, Judging, slotJudged}
+use Rattle.meaning.specs.Judge.{slotTest, slotNames, slotTested, Judging, slotJudged}
 use Rattle.laws.proofs.Moving.{weigh, Sender, length-moved, kept}
 use Rattle.laws.proofs.Accepted.{then-goes}
 use Rattle.slot.specs.declared.SlotAt.{SlotAt}
@@ -23,6 +24,7 @@ use Rattle.slot.specs.Move.{movedWithin}
 use Rattle.slot.proofs.Places.{lent, next-read, slot-read}
 use Rattle.laws.proofs.Few.{as-many}
 use Rattle.laws.proofs.Passed.{passed, Passes, Refused, turn}
+use Rattle.laws.proofs.Naming.{names-else}
 use Rattle.laws.proofs.Running.{each-at}
 use Rattle.slot.proofs.Within.{moved-within}
 use Rattle.judge.specs.SlotTurn.{judgingFrom, Ready}
@@ -106,3 +108,23 @@ module _ (plan : List ℕ) (at : ℕ) (here : SlotAt) (is : here ≡ slotAt plan
         ∙ moved-within parent senders held (ready .long) (ready .packets) (may .rising) (each-at (Sender parent held) senders (may .sending))
         in
         simp (next-read plan at here is inside, behind, eq-eqb (o .number) 0 none, moved-slot)
+
+-- whom the slot's test names is whom its number names, in the slot as it stands in the plan
+module _ (plan : List ℕ) (at : ℕ) (here : SlotAt) (is : here ≡ slotAt plan at) (inside : at ≤ length plan) (p : ℕ) (few : p ≤ 63)
+    (relation : ℕ → ℕ → Bool) (place : ℕ) (held : List ℕ) (t : Tested) (tested : t ≡ slotTested (atMost63 p) relation held place (lent plan here)) where
+  pub outcome-tested : t .outcome ≡ slotTest (atMost63 p) relation held place (lent plan here)
+  unfolding slotTested
+  outcome-tested = ap (λ (x : Tested). x .outcome) tested
+
+  pub names-tested : t .names ≡ slotNames p relation held (sendersAt plan at) (t .outcome .number)
+  unfolding slotTested
+  names-tested =
+      ap (λ (x : Tested). x .names) tested
+      ∙ ap₂ (λ (n : ℕ) (slot : List ℕ). slotNames n relation held slot (slotTest (atMost63 p) relation held place (lent plan here) .number))
+      (as-many p few) (slot-read plan at here is inside)
+      ∙ ap (λ (o : Outcome). slotNames p relation held (sendersAt plan at) (o .number)) (sym outcome-tested)
+
+  -- where the slot passes, nobody, whatever slot comes next
+  pub names-passed : t .outcome .number ≡ 0 → (held′ slot′ : List ℕ) → t .names ≡ slotNames p relation held′ slot′ (t .outcome .number)
+  names-passed none held′ slot′ =
+      names-tested ∙ names-else p relation held (sendersAt plan at) _ (inl (omega arith)) ∙ sym (names-else p relation held′ slot′ _ (inl (omega arith)))

@@ -1,21 +1,25 @@
-// The judge: a sheet and anybody's plan in, the verdict out.
+// The judge: a sheet and anybody's plan in, the verdict and whom it names out.
 ghost use mathlib.Core.Path.{_≡_};
 ghost use mathlib.Core.Bool.{true};
 ghost use Prim.Native.Nat.{_≤_};
 ghost use lib.ListN.{length};
 ghost use Rattle.meaning.specs.Words.{byNode};
 ghost use Rattle.meaning.specs.Conflict.{entry};
-ghost use Rattle.meaning.specs.Judge.{slotJudged, slotsJudged, judge, planJudgedBy};
+ghost use Rattle.meaning.specs.Judge.{slotJudged, slotsJudged, planJudgedBy, nobody, namesAt, planNamesBy, judgement};
 ghost use Rattle.meaning.specs.Answer.{isAccepted};
 ghost use Rattle.meaning.specs.Legal.{Good};
 ghost use Rattle.judge.specs.SlotTurn.{judging, judgingFrom, Ready, refusedVerdict};
+use meaning::Judgement;
+use meaning::Names;
 use meaning::Outcome;
 use meaning::Slot;
+use meaning::Tested;
 use meaning::Verdict;
 
-// How far the judge has come: what is wrong so far, and where the next slot begins.
+// How far the judge has come: what is wrong so far and whom it names, and where the next slot begins.
 struct Judged {
     outcome: Outcome,
+    names: Names,
     at: usize,
 }
 
@@ -26,7 +30,7 @@ fn refusal(number: u8, place: u16) -> Outcome
     Outcome { number, place }
 }
 
-// The slot at a place, 11 first; a passed slot moves its packets.
+// The slot at a place, 11 first, which names nobody; a passed slot moves its packets.
 fn slot_judged(
     p: u8,
     parents: &[u8; 65],
@@ -38,23 +42,34 @@ fn slot_judged(
 ) -> Judged
     requires inside { ⌜ at ≤ length (now plan) ⌝ }
     requires ready { ⌜ Ready p (byNode (now parents)) (now held) ⌝ }
-    ensures { λ r. ⌜ judging r (now (held .exit))
+    ensures answer { λ r. ⌜ judging r (now (held .exit))
         ≡ slotJudged p (byNode (now (parents .entry))) (entry (now (table .entry))) (now (plan .entry)) (number .0) (judgingFrom at (now (held .entry))) ⌝ }
+    ensures names { λ r. ⌜ r .names ≡ namesAt p (entry (now (table .entry))) (now (plan .entry)) (judging r (now (held .exit))) (r .outcome .number) ⌝ }
 {
     let here = slot::slot_at(plan, at);
     let first = here.first;
     let next = here.next;
     if plan.len() < next {
         let outcome = refusal(11, number.0);
-        return Judged { outcome, at };
+        return Judged {
+            outcome,
+            names: meaning::NOBODY,
+            at,
+        };
     }
     let slot = &plan[first..next];
-    let outcome = slot::slot_test(p, table, held, number, slot);
+    let tested = slot::slot_tested(p, table, held, number, slot);
+    let outcome = tested.outcome;
+    let names = tested.names;
     if outcome.number != 0 {
-        return Judged { outcome, at };
+        return Judged { outcome, names, at };
     }
     slot::move_packets(parents, slot, held);
-    Judged { outcome, at: next }
+    Judged {
+        outcome,
+        names,
+        at: next,
+    }
 }
 
 // The slots of a plan in order, up to the first that is refused.
@@ -68,8 +83,9 @@ fn slots_judged(
 ) -> Judged
     requires two { ⌜ 2 ≤ length (now plan) ⌝ }
     requires ready { ⌜ Ready p (byNode (now parents)) (now held) ⌝ }
-    ensures { λ r. ⌜ judging r (now (held .exit))
+    ensures answer { λ r. ⌜ judging r (now (held .exit))
         ≡ slotsJudged p (byNode (now (parents .entry))) (entry (now (table .entry))) (now (plan .entry)) many (judgingFrom 2 (now (held .entry))) ⌝ }
+    ensures names { λ r. ⌜ r .names ≡ namesAt p (entry (now (table .entry))) (now (plan .entry)) (judging r (now (held .exit))) (r .outcome .number) ⌝ }
 {
     let mut outcome = meaning::ACCEPTED;
     let mut at: usize = 2;
@@ -83,7 +99,21 @@ fn slots_judged(
         }
         k += 1;
     }
-    Judged { outcome, at }
+    Judged {
+        outcome,
+        names: meaning::NOBODY,
+        at,
+    }
+}
+
+// A refusal that names nobody.
+fn unnamed(number: u8, place: u16) -> Tested
+    ensures { λ r. ⌜ r ≡ record { outcome = record { number = number; place = place }; names = nobody } ⌝ }
+{
+    Tested {
+        outcome: Outcome { number, place },
+        names: meaning::NOBODY,
+    }
 }
 
 // The slots of a plan, then 16, then 17.
@@ -93,58 +123,64 @@ fn plan_judged_by(
     table: &[[bool; 65]; 65],
     packets: [u8; 65],
     plan: &[u8],
-) -> Outcome
+) -> Tested
     requires two { ⌜ 2 ≤ length (now plan) ⌝ }
     requires ready { ⌜ Ready p (byNode (now parents)) packets ⌝ }
-    ensures { λ r. ⌜ r ≡ planJudgedBy p (byNode (now (parents .entry))) (entry (now (table .entry))) packets (now (plan .entry)) ⌝ }
+    ensures answer { λ r. ⌜ r .outcome ≡ planJudgedBy p (byNode (now (parents .entry))) (entry (now (table .entry))) packets (now (plan .entry)) ⌝ }
+    ensures names { λ r. ⌜ r .names ≡ planNamesBy p (byNode (now (parents .entry))) (entry (now (table .entry))) packets (now (plan .entry)) (r .outcome .number) ⌝ }
 {
     let many = slot::slot_count(plan);
     let mut held = slot::wide(packets);
     let end = slots_judged(p, parents, table, plan, many, &mut held);
     let outcome = end.outcome;
+    let names = end.names;
     if outcome.number != 0 {
-        return outcome;
+        return Tested { outcome, names };
     }
     if end.at < plan.len() {
-        return refusal(16, many);
+        return unnamed(16, many);
     }
     if slot::any_outside(p, &held) {
-        return refusal(17, many);
+        return unnamed(17, many);
     }
-    meaning::ACCEPTED
+    meaning::PASSED
 }
 
 // What the judge answers where it refuses.
-fn refused(outcome: Outcome) -> Verdict
-    ensures { λ r. ⌜ r ≡ refusedVerdict outcome ⌝ }
+fn refused(outcome: Outcome, names: Names) -> Judgement
+    ensures { λ r. ⌜ r ≡ record { verdict = refusedVerdict outcome; names = names } ⌝ }
 {
-    Verdict { outcome, slots: 0 }
+    let verdict = Verdict { outcome, slots: 0 };
+    Judgement { verdict, names }
 }
 
-// Judges a plan against a sheet: the sheet first, then the plan.
-pub fn judge(sheet: &[u8], plan: &[u8]) -> Verdict
-    ensures answer { λ r. ⌜ r ≡ judge (now (sheet .entry)) (now (plan .entry)) ⌝ }
-    ensures exact { λ r. ⌜ (isAccepted (r .outcome) ≡ true → Good (now (sheet .entry)) (now (plan .entry)))
-        × (Good (now (sheet .entry)) (now (plan .entry)) → isAccepted (r .outcome) ≡ true) ⌝ }
+// Judges a plan against a sheet: the sheet first, then the plan; names whom a refused slot blames.
+pub fn judgement(sheet: &[u8], plan: &[u8]) -> Judgement
+    ensures answer { λ r. ⌜ r ≡ judgement (now (sheet .entry)) (now (plan .entry)) ⌝ }
+    ensures exact { λ r. ⌜ (isAccepted (r .verdict .outcome) ≡ true → Good (now (sheet .entry)) (now (plan .entry)))
+        × (Good (now (sheet .entry)) (now (plan .entry)) → isAccepted (r .verdict .outcome) ≡ true) ⌝ }
 {
     let tree = sheet::read(sheet);
     let read = tree.outcome;
     if read.number != 0 {
-        return refused(read);
+        return refused(read, meaning::NOBODY);
     }
     if plan.len() < 2 {
-        return refused(refusal(11, 0));
+        return refused(refusal(11, 0), meaning::NOBODY);
     }
     let p = tree.probes;
     let parents = tree.parents;
     let packets = tree.packets;
     let table = sheet::conflicts(sheet, p, parents);
-    let outcome = plan_judged_by(p, &parents, &table, packets, plan);
+    let tested = plan_judged_by(p, &parents, &table, packets, plan);
+    let outcome = tested.outcome;
+    let names = tested.names;
     if outcome.number != 0 {
-        return refused(outcome);
+        return refused(outcome, names);
     }
-    Verdict {
+    let verdict = Verdict {
         outcome,
         slots: slot::slot_count(plan),
-    }
+    };
+    Judgement { verdict, names }
 }

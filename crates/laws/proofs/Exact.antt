@@ -40,7 +40,7 @@ pub gives-none : (number place : ℕ) (test : Bool) → test ≡ false → given
 gives-none number place test e = ap (λ (t : Bool). given number place t) e
 
 -- numbers that rise from each to the next rise throughout
-rises : (f : ℕ → ℕ) (n : ℕ) → ((i : ℕ) → i + 1 < n → f i < f (i + 1)) → (i j : ℕ) → i < j → j < n → f i < f j
+pub rises : (f : ℕ → ℕ) (n : ℕ) → ((i : ℕ) → i + 1 < n → f i < f (i + 1)) → (i j : ℕ) → i < j → j < n → f i < f j
 rises f n next i zero h l = absurd (not-suc-le-zero h)
 rises f n next i (suc j) h l =
     let step : f j < f (suc j) = subst (λ (k : ℕ). f j < f k) (add-one j) (next j (omega arith)) in

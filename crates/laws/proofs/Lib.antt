@@ -3,6 +3,7 @@ pub mod Turns
 pub mod Few
 pub mod Lists
 pub mod Walk
+pub mod First
 pub mod Moving
 pub mod Slots
 pub mod Colouring
@@ -12,6 +13,8 @@ pub mod Grounds
 pub mod Running
 pub mod Passed
 pub mod Exact
+pub mod Naming
+pub mod Blame
 pub mod Joining
 pub mod Levels
 pub mod Recorded

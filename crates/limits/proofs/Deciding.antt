@@ -11,14 +11,17 @@ use lib.ListN.{length, take}
 use lib.Seq.{take-all, getD-take, length-take-le}
 use Rattle.meaning.specs.declared.Outcome.{Outcome}
 use Rattle.meaning.specs.declared.Planned.{Planned}
+use Rattle.meaning.specs.declared.Verdict.{Verdict}
+use Rattle.meaning.specs.declared.Names.{Names}
 use Rattle.meaning.specs.Sheet.{decidingSheet, twoAt, probeCount, pairCountAt, pairCount, sheetLength}
 use Rattle.meaning.specs.Plan.{anyPlan}
 use Rattle.meaning.specs.Rounds.{Way, byProbe, slotsOf}
 use Rattle.meaning.specs.Answer.{isAccepted, given, _then_, countsTest, sheetTest, refusedPlan, PlanMade, planMade}
-use Rattle.meaning.specs.Judge.{planJudged, judge}
+use Rattle.meaning.specs.Judge.{planJudged, judge, nobody, judgement}
 use Rattle.meaning.specs.Lister.{firstLine, slotLines, refusalLine, list, listing}
 use Rattle.laws.proofs.PlanMade.{nothing, makes, sheet-refuses}
 use Rattle.laws.proofs.Accepted.{then-stays, pairs-of-few}
+use Rattle.laws.proofs.Blame.{without-names, refused-names}
 
 -- the tests of the counts, of what each asks
 abbrev countsBy : Bool → Bool → Bool → Bool → Bool → Bool → Outcome
@@ -147,6 +150,10 @@ module _ (s : List ℕ) (refused : isAccepted (sheetTest s) ≡ false) where
       ap (λ (o : Outcome). record { outcome = o; slots = cond (isAccepted o) (twoAt plan 0) 0 }) stays
       ∙ ap (λ (b : Bool). record { outcome = sheetTest s; slots = cond b (twoAt plan 0) 0 }) refused
 
+  pub judgement-refused : (plan : List ℕ) → judgement s plan ≡ record { verdict = record { outcome = sheetTest s; slots = 0 }; names = nobody }
+  judgement-refused plan =
+      ap₂ (λ (v : Verdict) (n : Names). record { verdict = v; names = n }) (without-names s plan ∙ verdict-refused plan) (refused-names s plan refused)
+
 -- what is answered of the first 4,162 bytes is answered of all
 decided : {A : Type 0} (answer : List ℕ → A) (of : Outcome → A) → ((s : List ℕ) → isAccepted (sheetTest s) ≡ false → answer s ≡ of (sheetTest s))
     → (s : List ℕ) → answer (take decidingSheet s) ≡ answer s
@@ -165,6 +172,10 @@ plan-made-decided by s room = decided (λ t. planMade by t room) (λ o. nothing 
 
 pub verdict-decided : (s plan : List ℕ) → judge (take decidingSheet s) plan ≡ judge s plan
 verdict-decided s plan = decided (λ t. judge t plan) (λ o. record { outcome = o; slots = 0 }) (λ t no. verdict-refused t no plan) s
+
+pub judgement-decided : (s plan : List ℕ) → judgement (take decidingSheet s) plan ≡ judgement s plan
+judgement-decided s plan =
+    decided (λ t. judgement t plan) (λ o. record { verdict = record { outcome = o; slots = 0 }; names = nobody }) (λ t no. judgement-refused t no plan) s
 
 pub text-decided : (s : List ℕ) → listing s ≡ list s
 text-decided s = decided list refusalLine text-refused s

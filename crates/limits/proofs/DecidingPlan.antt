@@ -1,16 +1,19 @@
--- The first 96,032 bytes decide every verdict about a plan. Each sender of a passed slot brings a packet one hop nearer, so that the passed slots have at
+-- The first 96,032 bytes decide every verdict about a plan, and whom it names. Each sender of a passed slot brings a packet one hop nearer, so that the passed slots have at
 -- most 30,240 senders and every slot that the judge reads stands in these bytes. Where none is refused, bytes are left behind them.
-use mathlib.Core.Path.{_≡_, refl, sym, ap, ap₂, _∙_}
+use mathlib.Core.Path.{_≡_, refl, sym, ap, ap₂, _∙_, subst}
 use mathlib.Core.Bool.{Bool, true, false, cond}
 use mathlib.Core.List.{List, [], _∷_}
-use mathlib.Core.Logic.{⊎-elim}
+use mathlib.Core.Logic.{_⊎_, inl, inr, ⊎-elim}
 use Prim.Native.Nat.{ℕ, zero, suc, _+_, _*_, _≤_, _<_}
+use native.Mathlib.Decide.{decLt}
 use native.Mathlib.Omega.{arith}
 use borrow.Author.Tests.{leb-true, leb-false, lt-ltb, le-ltb}
 use lib.Dec.{ltb, leb}
 use lib.ListN.{length, getD, take, drop, length-drop}
 use lib.Seq.{take-all, take-take, getD-take, length-take-le}
 use Rattle.meaning.specs.declared.Outcome.{Outcome}
+use Rattle.meaning.specs.declared.Verdict.{Verdict}
+use Rattle.meaning.specs.declared.Names.{Names}
 use Rattle.meaning.specs.Words.{forEach, places}
 use Rattle.meaning.specs.Plan.{decidingPlan, nextAt, sendersAt}
 use Rattle.meaning.specs.Sheet.{twoAt, probeCount, parentOf, levelOf, hops}
@@ -18,15 +21,17 @@ use Rattle.meaning.specs.Conflict.{entry, conflictTable}
 use Rattle.meaning.specs.Rounds.{outside, moved}
 use Rattle.meaning.specs.Legal.{heldFirst}
 use Rattle.meaning.specs.Answer.{accepted, isAccepted, given, _then_, sheetTest}
-use Rattle.meaning.specs.Judge.{Judging, slotTest, slotJudged, slotsJudged, planJudgedBy, planJudged, judge}
+use Rattle.meaning.specs.Judge.{Judging, slotTest, slotJudged, slotsJudged, planJudgedBy, planJudged, judge, slotNames, planNamesBy, planNames, judgement}
 use Rattle.laws.proofs.Turns.{length-tab}
 use Rattle.laws.proofs.Moving.{weigh-moved, weigh-up, length-moved}
 use Rattle.laws.proofs.Running.{each-at, at-each}
 use Rattle.laws.proofs.Passed.{Passed, passed, Passes, Refused, turn}
+use Rattle.laws.proofs.Naming.{Naming}
+use Rattle.laws.proofs.Blame.{without-names, named-slot, accepted-names, names-rightly}
 use Rattle.laws.proofs.Grounds.{few-probes, parent-node, level-up, hopsLeft, first-left}
 use Rattle.limits.proofs.Sums.{forEach-counts}
 use Rattle.limits.proofs.Hops.{hops-limit}
-use Rattle.limits.proofs.Deciding.{verdict-refused}
+use Rattle.limits.proofs.Deciding.{verdict-refused, judgement-refused}
 
 -- a part that ends within the first n
 part-of : (a m n : ℕ) (l : List ℕ) → a + m ≤ n → take m (drop a (take n l)) ≡ take m (drop a l)
@@ -114,12 +119,23 @@ module _ (s : List ℕ) (ok : isAccepted (sheetTest s) ≡ true) where
     many-bytes : length first ≡ n
     many-bytes = length-take-le n plan (omega arith)
 
+    -- a slot whose turn comes begins so near the start that it is the same in the first bytes
+    turn-near : (k : ℕ) → k < 65535 → (now : Judging) → Near k now → now .at ≤ 95776
+    turn-near k h now so = omega (arith, so .near, hops-limit s ok)
+
+    same-count : (at : ℕ) → at ≤ 95776 → getD first at 0 ≡ getD plan at 0
+    same-count at here = getD-take n plan at 0 (omega arith)
+
+    same-senders : (at : ℕ) → at ≤ 95776 → sendersAt first at ≡ sendersAt plan at
+    same-senders at here =
+        ap (λ (m : ℕ). take m (drop (at + 1) first)) (same-count at here) ∙ part-of (at + 1) (getD plan at 0) n plan (omega (arith, bytes at))
+
     -- a slot that the judge comes to is the same in the first bytes
     same-slot : (k : ℕ) → k < 65535 → (now : Judging) → Near k now → step first (k + 1) now ≡ step plan (k + 1) now
     unfolding slotJudged
     same-slot k h now so =
         ap (λ (late : Bool). answer late (nextAt first (now .at)) (sendersAt first (now .at))) (le-ltb (length first) (nextAt first (now .at)) (omega (arith, there, many-bytes)))
-        ∙ ap₂ (answer false) (ap (λ (m : ℕ). now .at + 1 + m) count) senders
+        ∙ ap₂ (answer false) (ap (λ (m : ℕ). now .at + 1 + m) count) (same-senders (now .at) here)
         ∙ sym (ap (λ (late : Bool). answer late (nextAt plan (now .at)) (sendersAt plan (now .at))) (le-ltb (length plan) (nextAt plan (now .at)) (omega (arith, there, count))))
       where
         answer : Bool → ℕ → List ℕ → Judging
@@ -130,18 +146,13 @@ module _ (s : List ℕ) (ok : isAccepted (sheetTest s) ≡ true) where
             (record { outcome = outcome; at = now .at; held = now .held })
 
         here : now .at ≤ 95776
-        here = omega (arith, so .near, hops-limit s ok)
+        here = turn-near k h now so
 
         count : getD first (now .at) 0 ≡ getD plan (now .at) 0
-        count = getD-take n plan (now .at) 0 (omega (arith, here))
+        count = same-count (now .at) here
 
         there : nextAt first (now .at) ≤ n
         there = omega (arith, here, count, bytes (now .at))
-
-        senders : sendersAt first (now .at) ≡ sendersAt plan (now .at)
-        senders =
-            ap (λ (m : ℕ). take m (drop (now .at + 1) first)) count
-            ∙ part-of (now .at + 1) (getD plan (now .at) 0) n plan (omega (arith, here, bytes (now .at)))
 
     same-slots : (many : ℕ) → many ≤ 65535 → judged first many ≡ judged plan many
     unfolding slotsJudged
@@ -153,25 +164,28 @@ module _ (s : List ℕ) (ok : isAccepted (sheetTest s) ≡ true) where
     same-many : twoAt first 0 ≡ twoAt plan 0
     same-many = ap₂ (λ (x y : ℕ). 256 * x + y) (getD-take n plan 0 0 (omega arith)) (getD-take n plan 1 0 (omega arith))
 
+    few-slots : twoAt plan 0 ≤ 65535
+    few-slots = omega (arith, bytes 0, bytes 1)
+
+    -- the judge ends alike in both
+    same-end : judged first (twoAt first 0) ≡ judged plan (twoAt plan 0)
+    same-end = ap (judged first) same-many ∙ same-slots (twoAt plan 0) few-slots
+
     -- behind the last slot bytes are left, in both
     same-judged : planJudged s first ≡ planJudged s plan
     unfolding planJudged planJudgedBy
     same-judged =
-        ap (λ (m : ℕ). ending m (judged first m) (ltb (judged first m .at) (length first))) same-many
-        ∙ ap (λ (end : Judging). ending (twoAt plan 0) end (ltb (end .at) (length first))) (same-slots (twoAt plan 0) few)
+        ap₂ (λ (m : ℕ) (end : Judging). ending m end (ltb (end .at) (length first))) same-many same-end
         ∙ ap (ending (twoAt plan 0) last) (lt-ltb (last .at) (length first) (omega (arith, here, many-bytes)) ∙ sym (lt-ltb (last .at) (length plan) (omega (arith, here))))
       where
         ending : ℕ → Judging → Bool → Outcome
         ending many end behind = (end .outcome) then given 16 many behind then given 17 many (outside (probeCount s) (end .held))
 
-        few : twoAt plan 0 ≤ 65535
-        few = omega (arith, bytes 0, bytes 1)
-
         last : Judging
         last = judged plan (twoAt plan 0)
 
         here : last .at ≤ 95777
-        here = omega (arith, near-all plan (twoAt plan 0) .near, hops-limit s ok, few)
+        here = omega (arith, near-all plan (twoAt plan 0) .near, hops-limit s ok, few-slots)
 
     same-verdict : judge s first ≡ judge s plan
     unfolding judge
@@ -182,10 +196,64 @@ module _ (s : List ℕ) (ok : isAccepted (sheetTest s) ≡ true) where
         same-judged)
         same-many
 
-pub plan-decided : (s plan : List ℕ) → ((k : ℕ) → getD plan k 0 < 256) → judge s (take decidingPlan plan) ≡ judge s plan
-plan-decided s plan bytes = go (isAccepted (sheetTest s)) (leb (length plan) decidingPlan) refl refl
+    -- the slot that is named in had its turn, so that it is the same; elsewhere nobody is named
+    same-names : judgement s first .names ≡ judgement s plan .names
+    unfolding planNames planNamesBy
+    same-names = go (decLt (number plan) 12) (decLt 15 (number plan))
+      where
+        number : List ℕ → ℕ
+        number l = judge s l .outcome .number
+
+        same-number : number first ≡ number plan
+        same-number = ap (λ (v : Verdict). v .outcome .number) same-verdict
+
+        nobody-named : (number plan < 12) ⊎ (15 < number plan) → judgement s first .names ≡ judgement s plan .names
+        nobody-named out =
+            names-rightly s first ok .else-nobody (subst (λ (m : ℕ). (m < 12) ⊎ (15 < m)) (sym same-number) out)
+            ∙ sym (names-rightly s plan ok .else-nobody out)
+
+        end : Judging
+        end = judged plan (twoAt plan 0)
+
+        namesIn : List ℕ → Judging → Names
+        namesIn slot now = slotNames (probeCount s) (entry (conflictTable s)) (now .held) slot (number plan)
+
+        someone-named : Naming (number plan) → judgement s first .names ≡ judgement s plan .names
+        someone-named named =
+            let stop = named-slot s plan ok named .stop in
+            let had = turn-near (stop .passed) (omega (arith, stop .below, few-slots)) (judged plan (stop .passed)) (near-all plan (stop .passed)) in
+            let here : end .at ≤ 95776 = omega (arith, had, ap (λ (now : Judging). now .at) (stop .ends)) in
+            accepted-names s first ok
+            ∙ ap (planNames s first) same-number
+            ∙ ap (λ (now : Judging). namesIn (sendersAt first (now .at)) now) same-end
+            ∙ ap (λ (slot : List ℕ). namesIn slot end) (same-senders (end .at) here)
+            ∙ sym (accepted-names s plan ok)
+
+        go : Dec (number plan < 12) → Dec (15 < number plan) → judgement s first .names ≡ judgement s plan .names
+        go (yes low) _ = nobody-named (inl low)
+        go (no low) (yes high) = nobody-named (inr high)
+        go (no low) (no high) = someone-named (omega arith, omega arith)
+
+    same-judgement : judgement s first ≡ judgement s plan
+    same-judgement =
+        ap₂ (λ (v : Verdict) (n : Names). record { verdict = v; names = n }) (without-names s first ∙ same-verdict ∙ sym (without-names s plan)) same-names
+
+-- the first bytes decide an answer that is the same for every plan where the sheet is refused, and for them and a longer plan where it is accepted
+decided-by : {A : Type 0} (answer : List ℕ → A) (refusal : A) (s plan : List ℕ)
+    → (isAccepted (sheetTest s) ≡ false → (l : List ℕ) → answer l ≡ refusal)
+    → (isAccepted (sheetTest s) ≡ true → decidingPlan < length plan → answer (take decidingPlan plan) ≡ answer plan)
+    → answer (take decidingPlan plan) ≡ answer plan
+decided-by answer refusal s plan refuses same = go (isAccepted (sheetTest s)) (leb (length plan) decidingPlan) refl refl
   where
-    go : (a b : Bool) → isAccepted (sheetTest s) ≡ a → leb (length plan) decidingPlan ≡ b → judge s (take decidingPlan plan) ≡ judge s plan
-    go a true e short = ap (judge s) (take-all decidingPlan plan (leb-true (length plan) decidingPlan short))
-    go false false refused long = verdict-refused s refused (take decidingPlan plan) ∙ sym (verdict-refused s refused plan)
-    go true false ok long = same-verdict s ok plan bytes decidingPlan (omega arith) (leb-false (length plan) decidingPlan long)
+    go : (a b : Bool) → isAccepted (sheetTest s) ≡ a → leb (length plan) decidingPlan ≡ b → answer (take decidingPlan plan) ≡ answer plan
+    go a true e short = ap answer (take-all decidingPlan plan (leb-true (length plan) decidingPlan short))
+    go false false refused long = refuses refused (take decidingPlan plan) ∙ sym (refuses refused plan)
+    go true false ok long = same ok (leb-false (length plan) decidingPlan long)
+
+pub plan-decided : (s plan : List ℕ) → ((k : ℕ) → getD plan k 0 < 256) → judge s (take decidingPlan plan) ≡ judge s plan
+plan-decided s plan bytes =
+    decided-by (judge s) _ s plan (verdict-refused s) (λ ok long. same-verdict s ok plan bytes decidingPlan (omega arith) long)
+
+pub plan-judgement-decided : (s plan : List ℕ) → ((k : ℕ) → getD plan k 0 < 256) → judgement s (take decidingPlan plan) ≡ judgement s plan
+plan-judgement-decided s plan bytes =
+    decided-by (judgement s) _ s plan (judgement-refused s) (λ ok long. same-judgement s ok plan bytes decidingPlan (omega arith) long)

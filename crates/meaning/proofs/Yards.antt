@@ -11,7 +11,10 @@ use Rattle.meaning.specs.declared.Outcome.{Outcome}
 use Rattle.meaning.specs.declared.Planned.{Planned}
 use Rattle.meaning.specs.declared.Told.{Told}
 use Rattle.meaning.specs.declared.Verdict.{Verdict}
-use Rattle.meaning.specs.Words.{Bytes, forEach, some, sum, most, tab, places, probesThat}
+use Rattle.meaning.specs.declared.Names.{Names}
+use Rattle.meaning.specs.declared.Tested.{Tested}
+use Rattle.meaning.specs.declared.Judgement.{Judgement}
+use Rattle.meaning.specs.Words.{Bytes, forEach, some, least, sum, most, tab, places, probesThat}
 use Rattle.meaning.specs.Yard.{reaches, climb, climbed, lagOn}
 use Rattle.meaning.specs.Sheet.{twoAt, probeCount, parentOf, packetsOf, levelOf, hops, allPackets, heaviest, longest, slowest, interfere}
 use Rattle.meaning.specs.Plan.{twoBytes, slotBytes, slotsFrom, roomFor, front}
@@ -19,7 +22,7 @@ use Rattle.meaning.specs.Conflict.{disturb, conflict, tableOf, entry, co
 use Rattle.meaning.specs.Colour.{smallestFree, nextOf, colouredBy, probeColours, levelsConflict, levels, depth, levelColours}
 use Rattle.meaning.specs.Rounds.{Way, joined, ownersByProbe, ownersByLevel, slotOf, turnOf, moved, heldAfter, recorded, round, rounds, byProbe, byLevel, slotsOf}
 use Rattle.meaning.specs.Answer.{accepted, _then_, inOrder, probeTest, walkTest, pairTest, countsTest, sheetTest, planTest, planMade}
-use Rattle.meaning.specs.Judge.{Judging, slotTest, slotJudged, slotsJudged, planJudgedBy, planJudged, judge, choice, handedBack}
+use Rattle.meaning.specs.Judge.{Judging, slotTest, twoNames, slotNames, slotTested, slotJudged, slotsJudged, planJudgedBy, planJudged, judge, planNamesBy, planNames, judgement, choice, handedBack}
 use Rattle.meaning.specs.Lister.{text, decimal, numbersLine, sendersText, refusalLine, slotLine, slotLines, list, listing}
 use Rattle.meaning.specs.Telephone.{asked}
 
@@ -47,8 +50,8 @@ many (suc k) piece rest = before piece (many k piece rest)
 
 -- what a row says of the sheet that it begins with. `tested` gives number and place. `conflicts` gives for each probe those that it conflicts
 -- with, `level-conflicts` the same of levels. A planner's row gives the length of the buffer lent, whose bytes are all `ee`; then number, place, colours, slots and bytes written; then
--- the whole buffer afterwards. A judge's row gives the plan; then number, place and slots; `holding` gives it too, and what the nodes from 0
--- on hold after its slots. A row of branches gives the
+-- the whole buffer afterwards. A judge's row gives the plan; then number, place and slots; `named` gives both names too; `slot-tested` gives the senders of
+-- slot 7, sent first; then number, place and both names; `holding` gives a plan, and what the nodes from 0 on hold after its slots. A row of branches gives the
 -- heaviest, the longest and the slowest; the telephone's number and place, then the slots at least, in our plan, and at most. A plan's slots, a count's bytes,
 -- and a number's and a slot's text stand by themselves
 pub data Row : Type 0 where
@@ -61,6 +64,8 @@ pub data Row : Type 0 where
   plan-by-probe : String → ℕ → List ℕ → String → Row
   plan-by-level : String → ℕ → List ℕ → String → Row
   judged : String → String → List ℕ → Row
+  named : String → String → List ℕ → Row
+  slot-tested : String → List ℕ → List ℕ → Row
   holding : String → String → List ℕ → Row
   chosen : String → String → String → String → Row
   listed : String → String → Row
@@ -81,6 +86,9 @@ planner by s lent = let made = planMade by s lent in numbers (made .answer) ++ f
 
 verdict : Verdict → List ℕ
 verdict r = r .outcome .number ∷ r .outcome .place ∷ r .slots ∷ []
+
+names : Names → List ℕ
+names r = r .first ∷ r .second ∷ []
 
 told : Told → List ℕ
 told r = r .outcome .number ∷ r .outcome .place ∷ r .least ∷ r .ours ∷ r .most ∷ []
@@ -127,6 +135,18 @@ true-row (level-colours sheet colours) = same (take (depth (hex sheet)) (drop 1 
 true-row (plan-by-probe sheet lent numbers after) = same (planner byProbe (hex sheet) lent) (numbers ++ hex after)
 true-row (plan-by-level sheet lent numbers after) = same (planner byLevel (hex sheet) lent) (numbers ++ hex after)
 true-row (judged sheet plan numbers) = same (verdict (judge (hex sheet) (hex plan))) numbers
+true-row (named sheet plan numbers) = same (answered (judgement (hex sheet) (hex plan))) numbers
+  where
+    answered : Judgement → List ℕ
+    answered r = verdict (r .verdict) ++ names (r .names)
+true-row (slot-tested sheet slot numbers) =
+    same (answered (slotTested (probeCount s) (entry (conflictTable s)) (tab places (packetsOf s)) 7 slot)) numbers
+  where
+    s : List ℕ
+    s = hex sheet
+
+    answered : Tested → List ℕ
+    answered r = r .outcome .number ∷ r .outcome .place ∷ names (r .names)
 true-row (holding sheet plan packets) = same (take (probeCount s + 2) (slotsJudged (probeCount s) (parentOf s) (entry (conflictTable s)) bytes (twoAt bytes 0) start .held)) packets
   where
     s : List ℕ
@@ -179,6 +199,10 @@ five = "05 01 01 02 01 03 01 04 01 05 01 00 00"
 -- three arms of two probes: 5 under 2, 6 under 3, 7 under 4; with pairs as they follow
 arms : String → String
 arms pairs = many 1 "06 01 01 01 01 01 01 02 01 03 01 04 01 " pairs
+
+-- four such arms, 6 to 9 under 2 to 5, in which 6 disturbs the parent of 9, and 7 that of 8
+four-arms : String
+four-arms = "08 01 01 01 01 01 01 01 01 02 01 03 01 04 01 05 01 00 02 04 07 05 06"
 
 -- branches of several levels and packets, and the pair 3, 5
 mixed : String
@@ -281,33 +305,53 @@ yards =
     ∷ judged A "00 02 01 02 02 03" (11 ∷ 2 ∷ 0 ∷ [])
     ∷ judged A "01 00 01 02" (11 ∷ 2 ∷ 0 ∷ [])
     ∷ judged A "00 01 02 09" (11 ∷ 1 ∷ 0 ∷ [])
-    -- 12: a sender below 2 or above n; over the whole slot before 13
-    ∷ judged A "00 01 01 00" (12 ∷ 1 ∷ 0 ∷ [])
-    ∷ judged A "00 01 02 01 02" (12 ∷ 1 ∷ 0 ∷ [])
-    ∷ judged A "00 01 01 05" (12 ∷ 1 ∷ 0 ∷ [])
+    -- 12: a sender below 2 or above n; over the whole slot before 13; the first such is named, by its byte
+    ∷ named A "00 01 01 00" (12 ∷ 1 ∷ 0 ∷ 0 ∷ 0 ∷ [])
+    ∷ named A "00 01 02 01 02" (12 ∷ 1 ∷ 0 ∷ 1 ∷ 0 ∷ [])
+    ∷ named A "00 01 01 05" (12 ∷ 1 ∷ 0 ∷ 5 ∷ 0 ∷ [])
+    ∷ named A "00 01 01 c8" (12 ∷ 1 ∷ 0 ∷ 200 ∷ 0 ∷ [])
     ∷ judged A "00 01 01 04" (17 ∷ 1 ∷ 0 ∷ [])
-    ∷ judged A "00 02 01 02 01 05" (12 ∷ 2 ∷ 0 ∷ [])
+    ∷ named A "00 02 01 02 01 05" (12 ∷ 2 ∷ 0 ∷ 5 ∷ 0 ∷ [])
     ∷ judged (star 63 "3f " "00 00") "00 01 01 40" (17 ∷ 1 ∷ 0 ∷ [])
-    ∷ judged A "00 01 03 04 03 05" (12 ∷ 1 ∷ 0 ∷ [])
-    -- 13: equal or falling, also at the end of a slot; before 14
-    ∷ judged A "00 02 01 02 02 03 03" (13 ∷ 2 ∷ 0 ∷ [])
-    ∷ judged A "00 01 02 04 03" (13 ∷ 1 ∷ 0 ∷ [])
-    ∷ judged A "00 01 03 02 04 03" (13 ∷ 1 ∷ 0 ∷ [])
-    ∷ judged A "00 02 01 03 02 03 03" (13 ∷ 2 ∷ 0 ∷ [])
-    -- 14: no packet before the slot, first or last sender; before 15
-    ∷ judged A "00 02 01 03 02 03 04" (14 ∷ 2 ∷ 0 ∷ [])
-    ∷ judged A "00 02 01 04 02 03 04" (14 ∷ 2 ∷ 0 ∷ [])
-    ∷ judged A "00 02 01 02 02 02 03" (14 ∷ 2 ∷ 0 ∷ [])
+    ∷ named A "00 01 03 04 03 05" (12 ∷ 1 ∷ 0 ∷ 5 ∷ 0 ∷ [])
+    ∷ named A "00 01 04 04 09 03 05" (12 ∷ 1 ∷ 0 ∷ 9 ∷ 0 ∷ [])
+    -- 13: equal or falling, also at the end of a slot; before 14; the later of the first two is named
+    ∷ named A "00 02 01 02 02 03 03" (13 ∷ 2 ∷ 0 ∷ 3 ∷ 0 ∷ [])
+    ∷ named A "00 01 02 04 03" (13 ∷ 1 ∷ 0 ∷ 3 ∷ 0 ∷ [])
+    ∷ named A "00 01 03 02 04 03" (13 ∷ 1 ∷ 0 ∷ 3 ∷ 0 ∷ [])
+    ∷ named A "00 02 01 03 02 03 03" (13 ∷ 2 ∷ 0 ∷ 3 ∷ 0 ∷ [])
+    ∷ named A "00 01 04 04 03 04 02" (13 ∷ 1 ∷ 0 ∷ 3 ∷ 0 ∷ [])
+    -- 14: no packet before the slot, first or last sender; before 15; the first such is named
+    ∷ named A "00 02 01 03 02 03 04" (14 ∷ 2 ∷ 0 ∷ 3 ∷ 0 ∷ [])
+    ∷ named A "00 02 01 04 02 03 04" (14 ∷ 2 ∷ 0 ∷ 4 ∷ 0 ∷ [])
+    ∷ named A "00 02 01 02 02 02 03" (14 ∷ 2 ∷ 0 ∷ 2 ∷ 0 ∷ [])
+    ∷ named A "00 02 02 03 04 02 03 04" (14 ∷ 2 ∷ 0 ∷ 3 ∷ 0 ∷ [])
+    ∷ named A "00 03 01 02 01 03 02 02 03" (14 ∷ 3 ∷ 0 ∷ 3 ∷ 0 ∷ [])
     -- 15: the first and the last of three, the first two, the last two; slots in order, and slots before 16
-    ∷ judged A "00 01 02 02 04" (15 ∷ 1 ∷ 0 ∷ [])
-    ∷ judged turned "00 01 02 02 04" (15 ∷ 1 ∷ 0 ∷ [])
-    ∷ judged (arms "00 01 02 07") "00 01 03 05 06 07" (15 ∷ 1 ∷ 0 ∷ [])
-    ∷ judged (arms "00 01 02 06") "00 01 03 05 06 07" (15 ∷ 1 ∷ 0 ∷ [])
-    ∷ judged (arms "00 01 03 07") "00 01 03 05 06 07" (15 ∷ 1 ∷ 0 ∷ [])
+    ∷ named A "00 01 02 02 04" (15 ∷ 1 ∷ 0 ∷ 2 ∷ 4 ∷ [])
+    ∷ named turned "00 01 02 02 04" (15 ∷ 1 ∷ 0 ∷ 2 ∷ 4 ∷ [])
+    ∷ named (arms "00 01 02 07") "00 01 03 05 06 07" (15 ∷ 1 ∷ 0 ∷ 5 ∷ 7 ∷ [])
+    ∷ named (arms "00 01 02 06") "00 01 03 05 06 07" (15 ∷ 1 ∷ 0 ∷ 5 ∷ 6 ∷ [])
+    ∷ named (arms "00 01 03 07") "00 01 03 05 06 07" (15 ∷ 1 ∷ 0 ∷ 6 ∷ 7 ∷ [])
     ∷ judged (arms "00 01 05 06") "00 01 03 05 06 07" (17 ∷ 1 ∷ 0 ∷ [])
-    ∷ judged A "00 02 01 03 02 02 04" (15 ∷ 2 ∷ 0 ∷ [])
-    ∷ judged A "00 02 02 02 04 01 05" (15 ∷ 1 ∷ 0 ∷ [])
-    ∷ judged A "00 01 02 02 04 00" (15 ∷ 1 ∷ 0 ∷ [])
+    ∷ named A "00 02 01 03 02 02 04" (15 ∷ 2 ∷ 0 ∷ 2 ∷ 4 ∷ [])
+    ∷ named A "00 02 02 02 04 01 05" (15 ∷ 1 ∷ 0 ∷ 2 ∷ 4 ∷ [])
+    ∷ named A "00 01 02 02 04 00" (15 ∷ 1 ∷ 0 ∷ 2 ∷ 4 ∷ [])
+    -- of several pairs the lowest by the smaller, though 7 and 8 end sooner than 6 and 9, and then by the larger
+    ∷ named four-arms "00 01 04 06 07 08 09" (15 ∷ 1 ∷ 0 ∷ 6 ∷ 9 ∷ [])
+    ∷ named A "00 01 03 02 03 04" (15 ∷ 1 ∷ 0 ∷ 2 ∷ 3 ∷ [])
+    -- elsewhere nobody is named: in the sheet, 11, 16, 17, passed
+    ∷ named ring "00 01 01 09" (6 ∷ 2 ∷ 0 ∷ 0 ∷ 0 ∷ [])
+    ∷ named A "00 01 02 09" (11 ∷ 1 ∷ 0 ∷ 0 ∷ 0 ∷ [])
+    ∷ named A "00 01 01 02 02 02 04" (16 ∷ 1 ∷ 0 ∷ 0 ∷ 0 ∷ [])
+    ∷ named A "00 01 01 02" (17 ∷ 1 ∷ 0 ∷ 0 ∷ 0 ∷ [])
+    ∷ named A "00 03 01 02 02 03 04 01 02" (0 ∷ 0 ∷ 3 ∷ 0 ∷ 0 ∷ [])
+    -- a slot's test by itself
+    ∷ slot-tested A (3 ∷ 200 ∷ []) (12 ∷ 7 ∷ 200 ∷ 0 ∷ [])
+    ∷ slot-tested A (4 ∷ 3 ∷ []) (13 ∷ 7 ∷ 3 ∷ 0 ∷ [])
+    ∷ slot-tested below-relays (2 ∷ []) (14 ∷ 7 ∷ 2 ∷ 0 ∷ [])
+    ∷ slot-tested A (2 ∷ 3 ∷ []) (15 ∷ 7 ∷ 2 ∷ 3 ∷ [])
+    ∷ slot-tested A (3 ∷ 4 ∷ []) (0 ∷ 0 ∷ 0 ∷ 0 ∷ [])
     -- 16: a byte behind the last slot, its place the slot count; before 17
     ∷ judged A "00 00 00" (16 ∷ 0 ∷ 0 ∷ [])
     ∷ judged A "00 03 01 02 02 03 04 01 02 00" (16 ∷ 3 ∷ 0 ∷ [])
@@ -413,11 +457,11 @@ yards =
 
 -- the one claim: every row is true
 pub proved-yards : T (all-true yards)
-unfolding digit pairs hex many planner verdict told same alike up says true-row all-true A A-with-a-pair chain turned ring below-relays five arms mixed star yards
-    forEach some sum most tab probesThat reaches climb climbed lagOn parentOf packetsOf levelOf hops allPackets heaviest longest slowest interfere slotBytes slotsFrom
+unfolding digit pairs hex many planner verdict names told same alike up says true-row all-true A A-with-a-pair chain turned ring below-relays five arms four-arms mixed star yards
+    forEach some least sum most tab probesThat reaches climb climbed lagOn parentOf packetsOf levelOf hops allPackets heaviest longest slowest interfere slotBytes slotsFrom
     disturb conflict conflictTable smallestFree nextOf colouredBy probeColours levelsConflict levels depth levelColours
     joined ownersByProbe ownersByLevel slotOf turnOf moved heldAfter recorded round rounds byProbe byLevel slotsOf
     _then_ inOrder probeTest walkTest pairTest countsTest sheetTest planTest planMade
-    slotTest slotJudged slotsJudged planJudgedBy planJudged judge choice
+    slotTest twoNames slotNames slotTested slotJudged slotsJudged planJudgedBy planJudged judge planNamesBy planNames judgement choice
     text decimal numbersLine sendersText slotLine slotLines list asked
 proved-yards = tt

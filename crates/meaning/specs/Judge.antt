@@ -1,14 +1,17 @@
--- RULES, "Numbers returned": the judge and the chooser.
+-- RULES, "Numbers returned" and "Whom a refusal names": the judge and the chooser.
 use mathlib.Core.Bool.{Bool, cond, not, _&&_, _||_}
 use mathlib.Core.List.{List}
 use Prim.Native.Nat.{ℕ, _+_, _-_}
-use lib.Dec.{ltb, leb}
+use lib.Dec.{eqb, ltb, leb}
 use lib.ListN.{length, getD, take}
 use Rattle.meaning.specs.declared.Outcome.{Outcome}
 use Rattle.meaning.specs.declared.Verdict.{Verdict}
+use Rattle.meaning.specs.declared.Names.{Names}
+use Rattle.meaning.specs.declared.Tested.{Tested}
+use Rattle.meaning.specs.declared.Judgement.{Judgement}
 use Rattle.meaning.specs.declared.Choice.{Choice}
 use Rattle.meaning.specs.declared.Choice.the-variants.{Neither, First, Second}
-use Rattle.meaning.specs.Words.{Bytes, Node, Relation, forEach, some, tab, places}
+use Rattle.meaning.specs.Words.{Bytes, Node, Relation, forEach, some, least, tab, places}
 use Rattle.meaning.specs.Yard.{isProbe}
 use Rattle.meaning.specs.Sheet.{twoAt, probeCount, parentOf, packetsOf}
 use Rattle.meaning.specs.Conflict.{entry, conflictTable}
@@ -16,21 +19,34 @@ use Rattle.meaning.specs.Plan.{nextAt, sendersAt}
 use Rattle.meaning.specs.Rounds.{holds, outside, moved}
 use Rattle.meaning.specs.Answer.{accepted, isAccepted, given, _then_, sheetTest}
 
--- "Numbers returned": 12, some sender is no probe
+-- "Numbers returned": 12, sender i of a slot is no probe
+abbrev pub noProbe : (p : ℕ) → (slot : List Node) → (i : ℕ) → Bool
+noProbe p slot i = not (isProbe p (getD slot i 0))
+
+-- "Numbers returned": 13, the sender behind sender i is not above it
+abbrev pub notRising : (slot : List Node) → (i : ℕ) → Bool
+notRising slot i = leb (getD slot (i + 1) 0) (getD slot i 0)
+
+-- "Numbers returned": 14, sender i holds no packet before the slot
+abbrev pub noPacket : (held : List ℕ) → (slot : List Node) → (i : ℕ) → Bool
+noPacket held slot i = not (holds held (getD slot i 0))
+
+-- "Numbers returned": 15, sender j stands behind sender i, and the two conflict
+abbrev pub conflictBehind : Relation → (slot : List Node) → (i j : ℕ) → Bool
+conflictBehind relation slot i j = ltb i j && relation (getD slot i 0) (getD slot j 0)
+
+-- "Numbers returned": the four tests, each over the whole slot
 abbrev pub someNoProbe : (p : ℕ) → (slot : List Node) → Bool
-someNoProbe p slot = some (length slot) (λ i. not (isProbe p (getD slot i 0)))
+someNoProbe p slot = some (length slot) (noProbe p slot)
 
--- "Numbers returned": 13, some sender is not above the one before
 abbrev pub someNotRising : (slot : List Node) → Bool
-someNotRising slot = some (length slot - 1) (λ i. leb (getD slot (i + 1) 0) (getD slot i 0))
+someNotRising slot = some (length slot - 1) (notRising slot)
 
--- "Numbers returned": 14, some sender holds no packet before the slot
 abbrev pub someNoPacket : (held : List ℕ) → (slot : List Node) → Bool
-someNoPacket held slot = some (length slot) (λ i. not (holds held (getD slot i 0)))
+someNoPacket held slot = some (length slot) (noPacket held slot)
 
--- "Numbers returned": 15, two senders conflict
 abbrev pub someConflict : Relation → (slot : List Node) → Bool
-someConflict relation slot = some (length slot) (λ i. some (length slot) (λ j. ltb i j && relation (getD slot i 0) (getD slot j 0)))
+someConflict relation slot = some (length slot) (λ i. some (length slot) (conflictBehind relation slot i))
 
 -- "Numbers returned": 12 to 15 of one slot, each tried over the whole slot before the next
 unfoldable pub slotTest : (p : ℕ) → Relation → (held : List ℕ) → (place : ℕ) → (slot : List Node) → Outcome
@@ -39,6 +55,35 @@ slotTest p relation held place slot =
     then given 13 place (someNotRising slot)
     then given 14 place (someNoPacket held slot)
     then given 15 place (someConflict relation slot)
+
+-- "Whom a refusal names": nobody
+abbrev pub nobody : Names
+nobody = record { first = 0; second = 0 }
+
+-- "Whom a refusal names": one sender, by its byte
+abbrev pub oneName : (slot : List Node) → (i : ℕ) → Names
+oneName slot i = record { first = getD slot i 0; second = 0 }
+
+-- "Whom a refusal names": the lowest two that conflict, the smaller first; senders rise by then, so that the first two in the slot are the lowest
+unfoldable pub twoNames : Relation → (slot : List Node) → Names
+twoNames relation slot =
+    let i = least (length slot) (λ i. some (length slot) (conflictBehind relation slot i)) in
+    let j = least (length slot) (conflictBehind relation slot i) in
+    record { first = getD slot i 0; second = getD slot j 0 }
+
+-- "Whom a refusal names": for 12 to 14 the first offender in slot order, for 13 the later of two; for 15 the lowest two; elsewhere nobody
+unfoldable pub slotNames : (p : ℕ) → Relation → (held : List ℕ) → (slot : List Node) → (number : ℕ) → Names
+slotNames p relation held slot number =
+    cond (eqb number 12) (oneName slot (least (length slot) (noProbe p slot)))
+    (cond (eqb number 13) (oneName slot (least (length slot - 1) (notRising slot) + 1))
+    (cond (eqb number 14) (oneName slot (least (length slot) (noPacket held slot)))
+    (cond (eqb number 15) (twoNames relation slot) nobody)))
+
+-- "Numbers returned", "Whom a refusal names": the whole answer of a slot's test
+unfoldable pub slotTested : (p : ℕ) → Relation → (held : List ℕ) → (place : ℕ) → (slot : List Node) → Tested
+slotTested p relation held place slot =
+    let outcome = slotTest p relation held place slot in
+    record { outcome = outcome; names = slotNames p relation held slot (outcome .number) }
 
 -- how far the judge has come: what is wrong so far, where the next slot begins, and the packets that each node holds
 pub record Judging : Type 0 where
@@ -60,11 +105,15 @@ unfoldable pub slotsJudged : (p : ℕ) → (parent : Node → Node) → Relation
 slotsJudged p parent relation plan many start =
     forEach many (λ k now. cond (isAccepted (now .outcome)) (slotJudged p parent relation plan (k + 1) now) now) start
 
+-- "Numbers returned": how far the judge comes in a plan's slots, the first of which begins behind their count
+abbrev pub slotsDone : (p : ℕ) → (parent : Node → Node) → Relation → (packets : List ℕ) → (plan : Bytes) → Judging
+slotsDone p parent relation packets plan =
+    slotsJudged p parent relation plan (twoAt plan 0) (record { outcome = accepted; at = 2; held = packets })
+
 -- "Numbers returned": the slots of a plan, then 16, then 17
 unfoldable pub planJudgedBy : (p : ℕ) → (parent : Node → Node) → Relation → (packets : List ℕ) → (plan : Bytes) → Outcome
 planJudgedBy p parent relation packets plan =
-    let start : Judging = record { outcome = accepted; at = 2; held = packets } in
-    let end = slotsJudged p parent relation plan (twoAt plan 0) start in
+    let end = slotsDone p parent relation packets plan in
     (end .outcome)
     then given 16 (twoAt plan 0) (ltb (end .at) (length plan))
     then given 17 (twoAt plan 0) (outside p (end .held))
@@ -79,6 +128,24 @@ unfoldable pub judge : (s plan : Bytes) → Verdict
 judge s plan =
     let outcome = sheetTest s then given 11 0 (ltb (length plan) 2) then planJudged s plan in
     record { outcome = outcome; slots = cond (isAccepted outcome) (twoAt plan 0) 0 }
+
+-- "Whom a refusal names": whom the number given names in the slot that the judge has come to, which is the refused one
+abbrev pub namesAt : (p : ℕ) → Relation → (plan : Bytes) → Judging → (number : ℕ) → Names
+namesAt p relation plan now number = slotNames p relation (now .held) (sendersAt plan (now .at)) number
+
+unfoldable pub planNamesBy : (p : ℕ) → (parent : Node → Node) → Relation → (packets : List ℕ) → (plan : Bytes) → (number : ℕ) → Names
+planNamesBy p parent relation packets plan number = namesAt p relation plan (slotsDone p parent relation packets plan) number
+
+unfoldable pub planNames : (s plan : Bytes) → (number : ℕ) → Names
+planNames s plan number =
+    let table = conflictTable s in
+    planNamesBy (probeCount s) (parentOf s) (entry table) (tab places (packetsOf s)) plan number
+
+-- "Numbers returned", "Whom a refusal names": the judge's whole answer; a refused sheet names nobody
+unfoldable pub judgement : (s plan : Bytes) → Judgement
+judgement s plan =
+    let verdict = judge s plan in
+    record { verdict = verdict; names = cond (isAccepted (sheetTest s)) (planNames s plan (verdict .outcome .number)) nobody }
 
 -- "Numbers returned": the chooser takes the passed one with fewer slots, the first when equal
 abbrev pub chooseBy : Verdict → Verdict → Choice

@@ -11,3 +11,4 @@ pub mod Judge
 pub mod Lister
 pub mod Telephone
 pub mod Legal
+pub mod Blame

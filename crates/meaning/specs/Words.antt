@@ -1,5 +1,5 @@
--- The words in which the definitions are told: doing something in turn, and some, the sum, the most and the list of what is below a number.
-use mathlib.Core.Bool.{Bool, false, cond, _||_}
+-- The words in which the definitions are told: doing something in turn, and some, the first, the sum, the most and the list of what is below a number.
+use mathlib.Core.Bool.{Bool, false, cond, not, _||_}
 use mathlib.Core.List.{List, [], _∷_, _++_}
 use Prim.Native.Nat.{ℕ, zero, suc, _+_, max}
 use lib.ListN.{getD}
@@ -33,6 +33,10 @@ whileBusy busy step n start = forEach n (λ _ now. cond (busy now) (step now) no
 unfoldable pub some : ℕ → (ℕ → Bool) → Bool
 some zero test = false
 some (suc k) test = some k test || test k
+
+-- the first number that passes the test, looked for below n; n where none does
+unfoldable pub least : ℕ → (ℕ → Bool) → ℕ
+least n test = whileBusy (λ k. not (test k)) suc n 0
 
 -- f 0 + f 1 + .. + f (n - 1)
 unfoldable pub sum : ℕ → (ℕ → ℕ) → ℕ

@@ -8,7 +8,7 @@ pub const DECIDING_SHEET: usize = 4162;
 // Room for any plan of ours.
 pub const ANY_PLAN: usize = 60482;
 
-// So many bytes of a plan, from anybody, decide its verdict.
+// So many bytes of a plan, from anybody, decide its verdict and whom it names.
 pub const DECIDING_PLAN: usize = 96032;
 
 // Room for any listing.
@@ -55,10 +55,40 @@ pub enum Walk {
     Never,
 }
 
-// What the judge answers; the slots are 0 unless the plan is passed.
+// The verdict on a plan; the slots are 0 unless it is passed.
 pub struct Verdict {
     pub outcome: Outcome,
     pub slots: u16,
+}
+
+// Whom a refusal names: senders of the slot, by their bytes; 0 where it names nobody. A sender may be 0 itself: the number tells.
+pub struct Names {
+    pub first: u8,
+    pub second: u8,
+}
+
+// The names where nobody is named.
+pub const NOBODY: Names = Names {
+    first: 0,
+    second: 0,
+};
+
+// What the test of a slot, or of a plan's slots, answers.
+pub struct Tested {
+    pub outcome: Outcome,
+    pub names: Names,
+}
+
+// The answer where nothing is wrong, so that nobody is named.
+pub const PASSED: Tested = Tested {
+    outcome: ACCEPTED,
+    names: NOBODY,
+};
+
+// What the judge answers: the verdict, and whom it names.
+pub struct Judgement {
+    pub verdict: Verdict,
+    pub names: Names,
 }
 
 // What the telephone answers; the last three are 0 on refusal.

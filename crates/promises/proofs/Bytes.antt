@@ -7,11 +7,11 @@ use lib.ListN.{getD, take}
 use Rattle.meaning.specs.Words.{Bytes}
 use Rattle.meaning.specs.Sheet.{decidingSheet}
 use Rattle.meaning.specs.Plan.{decidingPlan}
-use Rattle.meaning.specs.Judge.{judge, chooseBy, choice}
+use Rattle.meaning.specs.Judge.{judge, judgement, chooseBy, choice}
 use Rattle.meaning.specs.Legal.{Good}
 use Rattle.laws.proofs.Exact.{passed-good}
 use Rattle.limits.proofs.Deciding.{verdict-decided}
-use Rattle.limits.proofs.DecidingPlan.{plan-decided}
+use Rattle.limits.proofs.DecidingPlan.{plan-decided, plan-judgement-decided}
 use Rattle.promises.specs.Answers.{Passes, Byte, numbers}
 
 bytes-below : (bytes : List Byte) (k : ℕ) → getD (numbers bytes) k 0 < 256
@@ -26,6 +26,9 @@ module _ (s : Bytes) (plan : List Byte) where
 
   pub plan-bytes-decide : judge s (take decidingPlan (numbers plan)) ≡ judge s (numbers plan)
   plan-bytes-decide = plan-decided s (numbers plan) (bytes-below plan)
+
+  pub plan-bytes-decide-judgement : judgement s (take decidingPlan (numbers plan)) ≡ judgement s (numbers plan)
+  plan-bytes-decide-judgement = plan-judgement-decided s (numbers plan) (bytes-below plan)
 
 pub choice-decided : (s a b : Bytes) → choice (take decidingSheet s) a b ≡ choice s a b
 unfolding choice

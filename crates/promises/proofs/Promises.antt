@@ -6,22 +6,25 @@ use Prim.Native.Nat.{ℕ, _+_, _-_, _*_, _≤_, _<_}
 use lib.Dec.{eqb}
 use lib.ListN.{length, getD, take}
 use Rattle.meaning.specs.declared.Choice.the-variants.{Neither, First, Second}
-use Rattle.meaning.specs.Words.{Bytes, some, someProbe, mostProbes}
+use Rattle.meaning.specs.Words.{Bytes, Node, Relation, some, someProbe, mostProbes}
 use Rattle.meaning.specs.Yard.{branchPackets}
 use Rattle.meaning.specs.Sheet.{decidingSheet, probeCount, parentOf, packetsOf, hops, allPackets, heaviest, longest, slowest}
 use Rattle.meaning.specs.Plan.{decidingPlan, planBytes, front}
 use Rattle.meaning.specs.Colour.{coloursUsed, probeColours, depth, levelColours}
 use Rattle.meaning.specs.Answer.{accepted, sheetTest, refusedPlan}
-use Rattle.meaning.specs.Judge.{judge, choice, handedBack}
+use Rattle.meaning.specs.Judge.{slotTest, slotTested, judge, nobody, judgement, choice, handedBack}
 use Rattle.meaning.specs.Lister.{list, listing}
 use Rattle.meaning.specs.Telephone.{atMost, asked}
 use Rattle.meaning.specs.Legal.{Good}
+use Rattle.meaning.specs.Blame.{Blames, NamesRightly}
 use Rattle.meaning.specs.Conflict.{tableOf, conflictTable}
 use Rattle.laws.proofs.Exact.{good-passed}
+use Rattle.laws.proofs.Naming.{slot-blames, slot-without-names}
+use Rattle.laws.proofs.Blame.{without-names, refused-names, names-rightly}
 use Rattle.laws.proofs.Recorded.{no-empty-slot}
 use Rattle.laws.proofs.Used.{probe-colours-used, level-colours-used}
 use Rattle.judge.proofs.Conserved.{packetsAfter, conserved}
-use Rattle.limits.proofs.Deciding.{verdict-decided, text-decided}
+use Rattle.limits.proofs.Deciding.{verdict-decided, judgement-decided, text-decided}
 use Rattle.limits.proofs.Fewest.{slots-least}
 use Rattle.limits.proofs.Tops.{heaviest-at-top}
 use Rattle.telephone.proofs.Limits.{answered, not-answered, least-ours, ours-most, least-any}
@@ -37,7 +40,7 @@ use Rattle.promises.proofs.Drawing.{draws, draws-nothing, draws-short}
 use Rattle.promises.specs.Answers.{Planner, probe, level, way, slotsBy, answer, after, planOf, Answers, counted, Accepted, Refused, NoRelay, Room, Short, Passes, Byte, numbers}
 use Rattle.promises.proofs.Planning.{plans, refuses-sheet, refuses-short, never-ten, own-passes, slots-few, by-probe-limit, by-probe-longest, by-probe-heaviest, by-level-limit, by-level-all, decides}
 use Rattle.promises.proofs.Choosing.{first-chosen, second-chosen, neither-chosen}
-use Rattle.promises.proofs.Bytes.{bytes-good, plan-bytes-decide, choice-decided}
+use Rattle.promises.proofs.Bytes.{bytes-good, plan-bytes-decide, plan-bytes-decide-judgement, choice-decided}
 
 -- Demand 1: every accepted sheet gets its plan, by either planner, wherever there is room: number 0, the counts of the paper's plan, and its bytes in front
 pub planned : (planner : Planner) (s buffer : Bytes) → Accepted s → Room s buffer
@@ -164,6 +167,35 @@ bytes-decide-text = text-decided
 -- "Numbers returned": the first 96,032 bytes of a plan decide its verdict
 pub bytes-decide-plan : (s : Bytes) (plan : List Byte) → judge s (take decidingPlan (numbers plan)) ≡ judge s (numbers plan)
 bytes-decide-plan = plan-bytes-decide
+
+-- "Whom a refusal names": without its names the judge's answer is the verdict of which every promise above speaks, and a slot's is that of its test
+pub verdict-stands : (s plan : Bytes) → judgement s plan .verdict ≡ judge s plan
+verdict-stands = without-names
+
+pub slot-verdict-stands : (p : ℕ) (relation : Relation) (held : List ℕ) (place : ℕ) (slot : List Node)
+    → slotTested p relation held place slot .outcome ≡ slotTest p relation held place slot
+slot-verdict-stands = slot-without-names
+
+-- "Whom a refusal names": whom a slot's test names is to blame, and no sender before has the fault, or no two are lower, told without a search in `Blame.antt`
+pub slot-names-blame : (p : ℕ) (relation : Relation) (held : List ℕ) (place : ℕ) (slot : List Node)
+    → Blames p relation held slot (slotTest p relation held place slot .number) (slotTested p relation held place slot .names)
+slot-names-blame = slot-blames
+
+-- "Whom a refusal names": and so is whom the judge names, in the slot at its place, while the packets are held that the slots before it leave
+pub names-blame : (s plan : Bytes) → Accepted s
+    → NamesRightly s plan (judgement s plan .verdict .outcome .number) (judgement s plan .verdict .outcome .place) (judgement s plan .names)
+names-blame s plan ok = rw without-names (names-rightly s plan ok)
+
+-- "Whom a refusal names": a refused sheet names nobody
+pub names-nobody : (s plan : Bytes) → Refused s → judgement s plan .names ≡ nobody
+names-nobody = refused-names
+
+-- "Whom a refusal names": the bytes that decide a verdict decide its names too, of a sheet and of a plan
+pub bytes-decide-judgement : (s plan : Bytes) → judgement (take decidingSheet s) plan ≡ judgement s plan
+bytes-decide-judgement = judgement-decided
+
+pub bytes-decide-plan-judgement : (s : Bytes) (plan : List Byte) → judgement s (take decidingPlan (numbers plan)) ≡ judgement s (numbers plan)
+bytes-decide-plan-judgement = plan-bytes-decide-judgement
 
 -- "A graph as text": every accepted sheet's graph is written wherever there is room, and what is written reads back as the sheet's conflict table, with its number of probes
 pub graph-drawn : (s buffer : Bytes) → Accepted s → length (graphText s) ≤ length buffer

@@ -3,11 +3,13 @@ use mathlib.Core.Path.{_≡_, refl, sym, ap, ap₂, _∙_}
 use mathlib.Core.Bool.{Bool, true, false, _||_, _&&_}
 use mathlib.Core.Logic.{⊎-elim}
 use Prim.Native.Nat.{ℕ, _+_, _-_, _≤_, _<_}
+use native.Mathlib.Nat.{le-refl}
 use native.Mathlib.Omega.{arith}
 use borrow.Author.Tests.{le-ltb}
 use lib.Dec.{ltb}
-use Rattle.meaning.specs.Words.{some}
+use Rattle.meaning.specs.Words.{some, least}
 use Rattle.laws.proofs.Turns.{below-or-last, some-one, some-found, some-none, none-some}
+use Rattle.laws.proofs.First.{First, least-first, first-only, first-some, first-none}
 
 -- as far as number k of n: none of those before passes
 pub record Looking (test : ℕ → Bool) (n k : ℕ) : Type 0 where
@@ -26,15 +28,29 @@ looking-on {test} {n} {k} l h e = record { within = omega arith; none = some-one
 pub looking-found : (test : ℕ → Bool) (n k : ℕ) → k < n → test k ≡ true → true ≡ some n test
 looking-found test n k h e = sym (some-found n test k h e)
 
--- none is left
-pub looking-ends : {test : ℕ → Bool} {n k : ℕ} → Looking test n k → n ≤ k → some n test ≡ false
-looking-ends {test} {n} {k} l h =
-    let all : n ≡ k = omega (arith, l .within) in
-    ap (λ (m : ℕ). some m test) all ∙ l .none
+-- none is left: the first is behind the last
+past : {test : ℕ → Bool} {n k : ℕ} → Looking test n k → n ≤ k → First test n k
+past {test} {n} {k} l h = record { within = l .within; none = l .none; passes = λ more. absurd (omega arith) }
 
--- a search that looks at the one before: number k - 1 is looked at in turn k
-pub turn-before : (test : ℕ → ℕ → Bool) (i : ℕ) (b : Bool) → 1 ≤ i → test i (i - 1) ≡ b → test (i - 1 + 1) (i - 1) ≡ b
-turn-before test i b h e = let same : i - 1 + 1 ≡ i = omega arith in ap (λ (k : ℕ). test k (i - 1)) same ∙ e
+pub looking-ends : {test : ℕ → Bool} {n k : ℕ} → Looking test n k → n ≤ k → some n test ≡ false
+looking-ends {test} {n} {k} l h = first-none test n k (past l h) h
+
+-- the search ends at the first that passes, or behind the last
+pub looking-stops : {test : ℕ → Bool} {n k : ℕ} → Looking test n k → k < n → test k ≡ true → k ≡ least n test
+looking-stops {test} {n} {k} l h e = first-only test n k (least n test) (record { within = l .within; none = l .none; passes = λ _. e }) (least-first n test)
+
+pub looking-past : {test : ℕ → Bool} {n k : ℕ} → Looking test n k → n ≤ k → k ≡ least n test
+looking-past {test} {n} {k} l h = first-only test n k (least n test) (past l h) (least-first n test)
+
+pub none-least : (test : ℕ → Bool) (n : ℕ) → some n test ≡ false → n ≡ least n test
+none-least test n none = looking-past (record { within = le-refl n; none = none }) (le-refl n)
+
+-- what is found below n passes, and what is not is n
+pub least-some : (test : ℕ → Bool) (n k : ℕ) → k ≡ least n test → k < n → some n test ≡ true
+least-some test n k is h = first-some test n (least n test) (least-first n test) (omega arith)
+
+pub least-none : (test : ℕ → Bool) (n k : ℕ) → k ≡ least n test → n ≤ k → some n test ≡ false
+least-none test n k is h = first-none test n (least n test) (least-first n test) (omega arith)
 
 -- among the pairs whose second is above i, none is looked for up to i
 pub looking-above : (test : ℕ → Bool) (n i : ℕ) → i < n → Looking (λ j. ltb i j && test j) n (i + 1)

@@ -1,18 +1,33 @@
 -- What the code asks of a slot's senders besides the meaning's tests.
-use mathlib.Core.Bool.{not}
+use mathlib.Core.Bool.{cond}
 use mathlib.Core.List.{List}
 use Prim.Native.Nat.{ℕ, _<_}
 use lib.ListN.{length, getD}
-use Rattle.meaning.specs.declared.Outcome.{Outcome}
-use Rattle.meaning.specs.Words.{Node, places}
+use Rattle.meaning.specs.declared.Tested.{Tested}
+use Rattle.meaning.specs.Words.{Node, Relation, some, least, places}
 use Rattle.meaning.specs.Yard.{isProbe}
 use Rattle.meaning.specs.Rounds.{holds}
-use Rattle.meaning.specs.Answer.{given, _then_}
+use Rattle.meaning.specs.Answer.{accepted}
+use Rattle.meaning.specs.Judge.{conflictBehind, nobody}
+use Rattle.slot.specs.declared.Two.{Two}
 
 -- each sender is a node
 abbrev pub Nodes : (slot : List Node) → Type 0
 Nodes slot = (i : ℕ) → i < length slot → getD slot i 0 < places
 
+-- the places of the two that 15 names; their number, twice, where no two conflict
+unfoldable pub firstTwo : Relation → (slot : List Node) → Two
+firstTwo relation slot =
+    let i = least (length slot) (λ i. some (length slot) (conflictBehind relation slot i)) in
+    record { first = i; second = least (length slot) (conflictBehind relation slot i) }
+
+-- a number at its place, and whom it names
+abbrev pub blaming : (number place first second : ℕ) → Tested
+blaming number place first second = record { outcome = record { number = number; place = place }; names = record { first = first; second = second } }
+
 -- the test of a slot with one sender: of the four only 12 and 14 can find something (proofs/Tests.antt)
-abbrev pub loneTest : (p : ℕ) → (held : List ℕ) → (place : ℕ) → (sender : Node) → Outcome
-loneTest p held place sender = given 12 place (not (isProbe p sender)) then given 14 place (not (holds held sender))
+unfoldable pub loneTested : (p : ℕ) → (held : List ℕ) → (place : ℕ) → (sender : Node) → Tested
+loneTested p held place sender =
+    cond (isProbe p sender)
+    (cond (holds held sender) (record { outcome = accepted; names = nobody }) (blaming 14 place sender 0))
+    (blaming 12 place sender 0)

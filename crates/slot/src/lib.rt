@@ -1,21 +1,23 @@
 // What is done with a slot: where it stands in a plan, its test, moving its packets, and whether any packet is outside the gateway.
 ghost use mathlib.Core.Path.{_≡_};
-ghost use Prim.Native.Nat.{_≤_, _<_};
-ghost use lib.ListN.{getD};
-ghost use Rattle.meaning.specs.Words.{byNode};
+ghost use Prim.Native.Nat.{_+_, _-_, _≤_, _<_};
+ghost use lib.ListN.{length, getD};
+ghost use Rattle.meaning.specs.Words.{byNode, least};
 ghost use Rattle.meaning.specs.Yard.{isProbe};
 ghost use Rattle.meaning.specs.Sheet.{twoAt};
 ghost use Rattle.meaning.specs.Plan.{sendersAt};
 ghost use Rattle.meaning.specs.Conflict.{entry};
 ghost use Rattle.meaning.specs.Rounds.{outside};
-ghost use Rattle.meaning.specs.Judge.{someNoProbe, someNotRising, someNoPacket, someConflict, slotTest};
+ghost use Rattle.meaning.specs.Judge.{noProbe, notRising, noPacket, slotTested};
 ghost use Rattle.laws.specs.Few.{atMost63};
 ghost use Rattle.slot.specs.Place.{slotAt};
-ghost use Rattle.slot.specs.SlotSenders.{Nodes, loneTest};
+ghost use Rattle.slot.specs.SlotSenders.{Nodes, firstTwo, blaming, loneTested};
 ghost use Rattle.slot.specs.Move.{hopWithin, movedWithin};
+use meaning::Names;
 use meaning::Outcome;
 use meaning::Probe;
 use meaning::Slot;
+use meaning::Tested;
 
 // Where a slot stands in a plan.
 pub struct SlotAt {
@@ -76,57 +78,64 @@ fn is_probe(p: u8, sender: u8) -> bool
     (sender as u16 + 254) % 256 < p as u16
 }
 
-// 12: some sender is no probe.
-fn no_probe(p: u8, slot: &[u8]) -> bool
-    ensures { λ r. ⌜ r ≡ someNoProbe (atMost63 p) (now (slot .entry)) ⌝ }
+// 12: the place of the first sender that is no probe, or their number where none is.
+fn no_probe(p: u8, slot: &[u8]) -> usize
+    ensures { λ r. ⌜ r ≡ least (length (now (slot .entry))) (noProbe (atMost63 p) (now (slot .entry))) ⌝ }
 {
     let probes = laws::at_most_63(p);
     let mut i = 0;
     while i < slot.len() {
         if !is_probe(probes, slot[i]) {
-            return true;
+            return i;
         }
         i += 1;
     }
-    false
+    i
 }
 
-// 13: some sender is not above the one before.
-fn not_rising(slot: &[u8]) -> bool
-    ensures { λ r. ⌜ r ≡ someNotRising (now (slot .entry)) ⌝ }
+// 13: the place of the first sender that is not above the one before, or what is behind the last.
+fn not_rising(slot: &[u8]) -> usize
+    ensures { λ r. ⌜ r ≡ least (length (now (slot .entry)) - 1) (notRising (now (slot .entry))) + 1 ⌝ }
 {
-    let mut i = 1;
-    while i < slot.len() {
-        if slot[i] <= slot[i - 1] {
-            return true;
+    let mut i = 0;
+    while i + 1 < slot.len() {
+        if slot[i + 1] <= slot[i] {
+            return i + 1;
         }
         i += 1;
     }
-    false
+    i + 1
 }
 
-// 14: some sender holds no packet.
-fn no_packet(held: &[u16; 65], slot: &[u8]) -> bool
+// 14: the place of the first sender that holds no packet, or their number where each does.
+fn no_packet(held: &[u16; 65], slot: &[u8]) -> usize
     requires { ⌜ Nodes (now slot) ⌝ }
-    ensures { λ r. ⌜ r ≡ someNoPacket (now (held .entry)) (now (slot .entry)) ⌝ }
+    ensures { λ r. ⌜ r ≡ least (length (now (slot .entry))) (noPacket (now (held .entry)) (now (slot .entry))) ⌝ }
 {
     let mut i = 0;
     while i < slot.len() {
         let v = slot[i] as usize;
         if held[v] == 0 {
-            return true;
+            return i;
         }
         i += 1;
     }
-    false
+    i
 }
 
-// 15: two senders conflict; it stops at the first two.
-fn two_conflict(table: &[[bool; 65]; 65], slot: &[u8]) -> bool
+// The places of two senders; their number, twice, where there are no such two.
+struct Two {
+    first: usize,
+    second: usize,
+}
+
+// 15: the first two senders that conflict; it stops there.
+fn two_conflict(table: &[[bool; 65]; 65], slot: &[u8]) -> Two
     requires { ⌜ Nodes (now slot) ⌝ }
-    ensures { λ r. ⌜ r ≡ someConflict (entry (now (table .entry))) (now (slot .entry)) ⌝ }
+    ensures { λ r. ⌜ r ≡ firstTwo (entry (now (table .entry))) (now (slot .entry)) ⌝ }
 {
-    let mut found = false;
+    let mut first = slot.len();
+    let mut second = slot.len();
     let mut i = 0;
     'pairs: while i + 1 < slot.len() {
         let x = slot[i] as usize;
@@ -134,58 +143,75 @@ fn two_conflict(table: &[[bool; 65]; 65], slot: &[u8]) -> bool
         while j < slot.len() {
             let y = slot[j] as usize;
             if table[x][y] {
-                found = true;
+                first = i;
+                second = j;
                 break 'pairs;
             }
             j += 1;
         }
         i += 1;
     }
-    found
+    Two { first, second }
+}
+
+// A number at its slot, and whom it names.
+fn blamed(number: u8, slot: Slot, first: u8, second: u8) -> Tested
+    ensures { λ r. ⌜ r ≡ blaming number (slot .0) first second ⌝ }
+{
+    let place = slot.0;
+    Tested {
+        outcome: Outcome { number, place },
+        names: Names { first, second },
+    }
 }
 
 // 12 and 14 of a slot with one sender, the usual slot of a crowded yard: 13 and 15 want two.
-fn lone_test(p: u8, held: &[u16; 65], number: Slot, sender: u8) -> Outcome
-    ensures { λ r. ⌜ r ≡ loneTest (atMost63 p) (now (held .entry)) (number .0) sender ⌝ }
+fn lone_tested(p: u8, held: &[u16; 65], number: Slot, sender: u8) -> Tested
+    ensures { λ r. ⌜ r ≡ loneTested (atMost63 p) (now (held .entry)) (number .0) sender ⌝ }
 {
-    let place = number.0;
     if !is_probe(laws::at_most_63(p), sender) {
-        return Outcome { number: 12, place };
+        return blamed(12, number, sender, 0);
     }
     let node = sender as usize;
     if held[node] == 0 {
-        return Outcome { number: 14, place };
+        return blamed(14, number, sender, 0);
     }
-    meaning::ACCEPTED
+    meaning::PASSED
 }
 
-// 12 to 15 of one slot, each over the whole slot before the next.
-pub fn slot_test(
+// 12 to 15 of one slot, each over the whole slot before the next, and whom the number names.
+pub fn slot_tested(
     p: u8,
     table: &[[bool; 65]; 65],
     held: &[u16; 65],
     number: Slot,
     slot: &[u8],
-) -> Outcome
-    ensures { λ r. ⌜ r ≡ slotTest (atMost63 p) (entry (now (table .entry))) (now (held .entry)) (number .0) (now (slot .entry)) ⌝ }
+) -> Tested
+    ensures { λ r. ⌜ r ≡ slotTested (atMost63 p) (entry (now (table .entry))) (now (held .entry)) (number .0) (now (slot .entry)) ⌝ }
 {
-    if slot.len() == 1 {
-        return lone_test(p, held, number, slot[0]);
+    let many = slot.len();
+    if many == 1 {
+        return lone_tested(p, held, number, slot[0]);
     }
-    let place = number.0;
-    if no_probe(p, slot) {
-        return Outcome { number: 12, place };
+    let stranger = no_probe(p, slot);
+    if stranger < many {
+        return blamed(12, number, slot[stranger], 0);
     }
-    if not_rising(slot) {
-        return Outcome { number: 13, place };
+    let later = not_rising(slot);
+    if later < many {
+        return blamed(13, number, slot[later], 0);
     }
-    if no_packet(held, slot) {
-        return Outcome { number: 14, place };
+    let empty = no_packet(held, slot);
+    if empty < many {
+        return blamed(14, number, slot[empty], 0);
     }
-    if two_conflict(table, slot) {
-        return Outcome { number: 15, place };
+    let two = two_conflict(table, slot);
+    let first = two.first;
+    let second = two.second;
+    if first < many {
+        return blamed(15, number, slot[first], slot[second]);
     }
-    meaning::ACCEPTED
+    meaning::PASSED
 }
 
 // Moves one packet of a sender to its parent; where one of them has no place, the sender no packet or the parent no room, nothing moves.

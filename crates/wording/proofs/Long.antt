@@ -1,23 +1,25 @@
 -- How long an answer can be: part by part, and no words of a number have more than 80 bytes.
-use mathlib.Core.Path.{_≡_, refl}
-use mathlib.Core.Bool.{Bool, true, false, cond}
+use mathlib.Core.Path.{_≡_, refl, ap, _∙_, subst}
+use mathlib.Core.Bool.{Bool, true, false, cond, _&&_}
 use mathlib.Core.List.{List, [], _∷_, _++_}
-use Prim.Native.Nat.{ℕ, zero, suc, _+_, _≤_, min, max}
+use Prim.Native.Nat.{ℕ, zero, suc, _+_, _-_, _≤_, _<_, min, max}
 use Prim.Native.String.{String}
 use native.Mathlib.Omega.{arith}
-use borrow.Author.Tests.{leb-true}
-use lib.Dec.{leb}
-use lib.ListN.{length, getD, length-append}
+use borrow.Author.Tests.{leb-true, ltb-true}
+use lib.Dec.{eqb, leb, ltb}
+use lib.ListN.{length, getD, take, drop, length-append}
+use lib.Seq.{getD-take, getD-drop}
 use Rattle.meaning.specs.declared.Outcome.{Outcome}
 use Rattle.meaning.specs.declared.Planned.{Planned}
-use Rattle.meaning.specs.declared.Verdict.{Verdict}
+use Rattle.meaning.specs.declared.Names.{Names}
+use Rattle.meaning.specs.declared.Judgement.{Judgement}
 use Rattle.meaning.specs.declared.Choice.{Choice}
 use Rattle.meaning.specs.declared.Choice.the-variants.{Neither, First, Second}
 use Rattle.meaning.specs.Answer.{isAccepted}
 use Rattle.meaning.specs.Lister.{text, decimal, said}
 use Rattle.lines.proofs.Decimal.{digits-most}
 use Rattle.lines.proofs.Lined.{said-length}
-use Rattle.wording.specs.Saying.{unknown, sayings, saying, refusedLine, plannedLine, verdictLine, choiceLine, choiceText, writtenLine, misreadLine}
+use Rattle.wording.specs.Saying.{unknown, sayings, saying, subject, saidOf, oneOrTwo, anySenders, namedSenders, refusedOf, refusedLine, blamedLine, plannedLine, verdictLine, choiceLine, choiceText, writtenLine, misreadLine}
 
 -- so many bytes at most
 pub record Within (bytes : List ℕ) (most : ℕ) : Type 0 where
@@ -56,14 +58,54 @@ saying-long : (number : ℕ) → Within (saying number) 80
 unfolding longest text unknown sayings saying
 saying-long = at-most (counted refl) sayings (leb-true (longest sayings) 80 refl)
 
+-- what 12 to 15 say is short, and with the senders before it no longer than what the others say
+saying-short : (number : ℕ) → 11 < number → number < 16 → Within (saying number) 43
+unfolding longest text unknown sayings saying
+saying-short number low high =
+    let k = number - 12 in
+    let four = take 4 (drop 12 sayings) in
+    let back : 12 + (number - 12) ≡ number = omega (arith, low) in
+    let inside : number - 12 < 4 = omega (arith, low, high) in
+    subst (λ (words : List ℕ). Within words 43)
+    (getD-take 4 (drop 12 sayings) k unknown inside ∙ getD-drop 12 sayings k unknown ∙ ap (λ (n : ℕ). getD sayings n unknown) back)
+    (at-most (counted refl) four (leb-true (longest four) 43 refl) k)
+
+said-long : (number : ℕ) {senders : List ℕ} → Within senders 37 → Within (saidOf number senders) 80
+unfolding subject
+said-long number {senders} h = go (ltb 11 number) (ltb number 16) refl refl
+  where
+    go : (low high : Bool) → ltb 11 number ≡ low → ltb number 16 ≡ high → Within (cond (low && high) senders [] ++ saying number) 80
+    go true true p q = both h (saying-short number (ltb-true 11 number p) (ltb-true number 16 q))
+    go true false p q = saying-long number
+    go false high p q = saying-long number
+
+any-long : (number : ℕ) → Within (anySenders number) 37
+unfolding text oneOrTwo
+any-long number = either (eqb number 15) (leb-true 37 37 refl) (counted refl) (counted refl)
+
+named-long : (outcome : Outcome) (names : Names) → Within (namedSenders outcome names) 37
+unfolding text oneOrTwo
+named-long outcome names =
+    let two = both (numbered {a = 7} "senders" (names .first) (counted refl)) (numbered {a = 4} " and" (names .second) (counted refl)) in
+    let one = numbered {a = 17} "sender" (names .first) (counted refl) in
+    both (either (eqb (outcome .number) 15) (leb-true 23 23 refl) two one) (numbered {a = 8} " of slot" (outcome .place) (counted refl))
+
 -- the lines and the text
-refused-long : (outcome : Outcome) → Within (refusedLine outcome) 102
-unfolding text refusedLine
-refused-long outcome =
+refused-of-long : (outcome : Outcome) {senders : List ℕ} → Within senders 37 → Within (refusedOf outcome senders) 102
+unfolding text
+refused-of-long outcome h =
     let number = numbered {a = 7} "refused" (outcome .number) (counted refl) in
     let place = numbered {a = 0} "" (outcome .place) (counted refl) in
-    both (both (both (both number place) (counted {bytes = text ": "} {most = 2} refl)) (saying-long (outcome .number)))
-    (counted {bytes = text "\n"} {most = 1} refl)
+    let before = both (both number place) (counted {bytes = text ": "} {most = 2} refl) in
+    both (both before (said-long (outcome .number) h)) (counted {bytes = text "\n"} {most = 1} refl)
+
+refused-long : (outcome : Outcome) → Within (refusedLine outcome) 102
+unfolding refusedLine
+refused-long outcome = refused-of-long outcome (any-long (outcome .number))
+
+blamed-long : (outcome : Outcome) (names : Names) → Within (blamedLine outcome names) 102
+unfolding blamedLine
+blamed-long outcome names = refused-of-long outcome (named-long outcome names)
 
 planned-long : (planned : Planned) → Within (plannedLine planned) 102
 unfolding text plannedLine
@@ -74,11 +116,12 @@ planned-long planned =
     let line = both (both (both slots colours) bytes) (counted {bytes = text " bytes\n"} {most = 7} refl) in
     either (isAccepted (planned .outcome)) (leb-true 48 102 refl) line (refused-long (planned .outcome))
 
-verdict-long : (verdict : Verdict) → Within (verdictLine verdict) 102
+verdict-long : (judgement : Judgement) → Within (verdictLine judgement) 102
 unfolding text verdictLine
-verdict-long verdict =
-    let line = both (numbered {a = 6} "passed" (verdict .slots) (counted refl)) (counted {bytes = text " slots\n"} {most = 7} refl) in
-    either (isAccepted (verdict .outcome)) (leb-true 19 102 refl) line (refused-long (verdict .outcome))
+verdict-long judgement =
+    let outcome = judgement .verdict .outcome in
+    let line = both (numbered {a = 6} "passed" (judgement .verdict .slots) (counted refl)) (counted {bytes = text " slots\n"} {most = 7} refl) in
+    either (isAccepted outcome) (leb-true 19 102 refl) line (blamed-long outcome (judgement .names))
 
 choice-long : (choice : Choice) → Within (choiceLine choice) 8
 unfolding text
@@ -86,7 +129,7 @@ choice-long First = counted refl
 choice-long Second = counted refl
 choice-long Neither = counted refl
 
-chosen-long : (choice : Choice) (first second : Verdict) → Within (choiceText choice first second) 227
+chosen-long : (choice : Choice) (first second : Judgement) → Within (choiceText choice first second) 227
 unfolding text choiceText
 chosen-long choice first second =
     let before = counted {bytes = text "first: "} {most = 7} refl in
@@ -105,7 +148,7 @@ misread-long number place =
     let first = numbered {a = 7} "refused" number (counted refl) in
     let line : Within (decimal 20 place) 20 = record { short = digits-most 20 place } in
     both
-    (both (both (both (both first (counted {bytes = text " "} {most = 1} refl)) line) (counted {bytes = text ": "} {most = 2} refl)) (saying-long number))
+    (both (both (both (both first (counted {bytes = text " "} {most = 1} refl)) line) (counted {bytes = text ": "} {most = 2} refl)) (said-long number (any-long number)))
     (counted {bytes = text "\n"} {most = 1} refl)
 
 -- so any answer fits into 256 bytes
@@ -115,10 +158,10 @@ refused-most outcome = omega (arith, refused-long outcome .short)
 pub planned-most : (planned : Planned) → length (plannedLine planned) ≤ 256
 planned-most planned = omega (arith, planned-long planned .short)
 
-pub verdict-most : (verdict : Verdict) → length (verdictLine verdict) ≤ 256
-verdict-most verdict = omega (arith, verdict-long verdict .short)
+pub verdict-most : (judgement : Judgement) → length (verdictLine judgement) ≤ 256
+verdict-most judgement = omega (arith, verdict-long judgement .short)
 
-pub chosen-most : (choice : Choice) (first second : Verdict) → length (choiceText choice first second) ≤ 256
+pub chosen-most : (choice : Choice) (first second : Judgement) → length (choiceText choice first second) ≤ 256
 chosen-most choice first second = omega (arith, chosen-long choice first second .short)
 
 pub written-most : (outcome : Outcome) (bytes : ℕ) → length (writtenLine outcome bytes) ≤ 256

@@ -1,17 +1,18 @@
 -- What each number says, and which line an answer has.
 use mathlib.Core.Path.{_≡_, sym, ap, _∙_}
+use mathlib.Core.Bool.{true, false}
 use mathlib.Core.List.{List, _++_}
 use Prim.Native.Nat.{ℕ, min, _<_}
 use borrow.Author.Tests.{eq-eqb, ne-eqb}
 use lib.ListN.{List·getD-eq-default}
 use Rattle.meaning.specs.declared.Outcome.{Outcome}
 use Rattle.meaning.specs.declared.Planned.{Planned}
-use Rattle.meaning.specs.declared.Verdict.{Verdict}
+use Rattle.meaning.specs.declared.Judgement.{Judgement}
 use Rattle.meaning.specs.Lister.{text, said}
 use Rattle.lines.specs.Line.{fitting, Put}
-use Rattle.wording.specs.Saying.{unknown, sayings, saying, refusedLine, plannedLine, verdictLine, writtenLine}
+use Rattle.wording.specs.Saying.{unknown, sayings, saying, ofSenders, subject, oneOrTwo, refusedLine, blamedLine, plannedLine, verdictLine, writtenLine}
 use Rattle.wording.specs.Fits.{Fits}
-use Rattle.wording.proofs.Fitting.{put-whole, put-same}
+use Rattle.wording.proofs.Fitting.{put-whole, put-nothing, put-same}
 
 -- the words of a number, and those of a number that has none
 pub put-words-of : {l after bytes : List ℕ} {at end number k : ℕ} → number ≡ k → bytes ≡ saying k → Put l at (fitting l at bytes) after end
@@ -22,6 +23,26 @@ pub put-unknown : {l after bytes : List ℕ} {at end number : ℕ} → 21 < numb
     → Fits l at (saying number) after end
 unfolding sayings saying
 put-unknown h words p = put-same (words ∙ sym (List·getD-eq-default sayings unknown h)) (put-whole p)
+
+-- whom a number is said of: senders that are put, or nobody
+module _ (number : ℕ) (senders : List ℕ) where
+  pub put-subject : {l after : List ℕ} {at end : ℕ} → ofSenders number ≡ true → Fits l at senders after end → Fits l at (subject number senders) after end
+  unfolding subject
+  put-subject e f = rw e f
+
+  pub put-no-one : (l : List ℕ) (at : ℕ) → ofSenders number ≡ false → Fits l at (subject number senders) l at
+  unfolding subject
+  put-no-one l at e = rw e (put-nothing l at)
+
+-- two senders, or one
+module _ (two one : List ℕ) {l after : List ℕ} {at end number : ℕ} where
+  pub put-two : number ≡ 15 → Fits l at two after end → Fits l at (oneOrTwo number two one) after end
+  unfolding oneOrTwo
+  put-two e f = rw (eq-eqb number 15 e) f
+
+  pub put-one : (number ≡ 15 → ⊥) → Fits l at one after end → Fits l at (oneOrTwo number two one) after end
+  unfolding oneOrTwo
+  put-one ne f = rw (ne-eqb number 15 ne) f
 
 -- the line of an answer where nothing is wrong, and where something is
 module _ (planned : Planned) where
@@ -35,14 +56,14 @@ module _ (planned : Planned) where
   unfolding plannedLine
   unplanned-line ne = rw (ne-eqb (planned .outcome .number) 0 ne)
 
-module _ (verdict : Verdict) where
-  pub passed-line : verdict .outcome .number ≡ 0 → verdictLine verdict ≡ said "passed" (verdict .slots) ++ text " slots\n"
+module _ (judgement : Judgement) where
+  pub passed-line : judgement .verdict .outcome .number ≡ 0 → verdictLine judgement ≡ said "passed" (judgement .verdict .slots) ++ text " slots\n"
   unfolding verdictLine
-  passed-line e = rw (eq-eqb (verdict .outcome .number) 0 e)
+  passed-line e = rw (eq-eqb (judgement .verdict .outcome .number) 0 e)
 
-  pub failed-line : (verdict .outcome .number ≡ 0 → ⊥) → verdictLine verdict ≡ refusedLine (verdict .outcome)
+  pub failed-line : (judgement .verdict .outcome .number ≡ 0 → ⊥) → verdictLine judgement ≡ blamedLine (judgement .verdict .outcome) (judgement .names)
   unfolding verdictLine
-  failed-line ne = rw (ne-eqb (verdict .outcome .number) 0 ne)
+  failed-line ne = rw (ne-eqb (judgement .verdict .outcome .number) 0 ne)
 
 module _ (outcome : Outcome) (bytes : ℕ) where
   pub written-line : outcome .number ≡ 0 → writtenLine outcome bytes ≡ said "written" (min bytes 65535) ++ text " bytes\n"

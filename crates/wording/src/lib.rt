@@ -1,14 +1,17 @@
 // The front door's answers in words: each public function decides every byte of one, in a lent buffer.
 ghost use mathlib.Core.Path.{_≡_};
+ghost use mathlib.Core.List.{_++_};
 ghost use Prim.Native.Nat.{_≤_, _<_, min};
 ghost use lib.ListN.{length, take};
+ghost use Rattle.meaning.specs.Lister.{text, refusal};
 ghost use Rattle.lines.specs.Line.{lineLength, lineIn};
-ghost use Rattle.wording.specs.Saying.{saying, refusedLine, plannedLine, verdictLine, choiceLine, choiceText, writtenLine, misreadLine};
+ghost use Rattle.wording.specs.Saying.{saying, ofSenders, subject, saidOf, anySenders, theSenders, namedSenders, refusedLine, blamedLine, plannedLine, verdictLine, choiceLine, choiceText, writtenLine, misreadLine};
 ghost use Rattle.wording.specs.Fits.{Fits};
 use meaning::Choice;
+use meaning::Judgement;
+use meaning::Names;
 use meaning::Outcome;
 use meaning::Planned;
-use meaning::Verdict;
 
 // Room for any answer.
 pub const ANY_ANSWER: usize = 256;
@@ -68,16 +71,16 @@ fn put_of_plan(number: u8, out: &mut [u8], at: usize) -> usize
     }
 }
 
-// What 12 to 15 say of a slot.
+// What 12 to 15 say of the senders who stand before it.
 fn put_of_slot(number: u8, out: &mut [u8], at: usize) -> usize
     requires { ⌜ (11 < number) × (number < 16) ⌝ }
     ensures { λ r. ⌜ Fits (now (out .entry)) at (saying number) (now (out .exit)) r ⌝ }
 {
     match number {
-        12 => lines::put_words(b"a sender of the slot is no probe of the yard", out, at),
-        13 => lines::put_words(b"the senders of the slot do not rise", out, at),
-        14 => lines::put_words(b"a sender of the slot holds no packet", out, at),
-        _ => lines::put_words(b"two senders of the slot conflict", out, at),
+        12 => lines::put_words(b" is no probe of the yard", out, at),
+        13 => lines::put_words(b" is not above the one before it", out, at),
+        14 => lines::put_words(b" holds no packet", out, at),
+        _ => lines::put_words(b" conflict", out, at),
     }
 }
 
@@ -136,17 +139,86 @@ fn put_saying(number: u8, out: &mut [u8], at: usize) -> usize
     put_of_graph(number, out, at)
 }
 
-// Puts the line of a refusal at a place; says where it ends.
-fn put_refused(outcome: Outcome, out: &mut [u8], at: usize) -> usize
-    ensures { λ r. ⌜ Fits (now (out .entry)) at (refusedLine outcome) (now (out .exit)) r ⌝ }
+// Whether a number is said of senders of a slot.
+fn is_of_senders(number: u8) -> bool
+    ensures { λ r. ⌜ r ≡ ofSenders number ⌝ }
+{
+    11 < number && number < 16
+}
+
+// Puts whom a number is said of, where nobody is named, at a place; says where that ends.
+fn put_any_senders(number: u8, out: &mut [u8], at: usize) -> usize
+    ensures { λ r. ⌜ Fits (now (out .entry)) at (subject number (anySenders number)) (now (out .exit)) r ⌝ }
+{
+    if !is_of_senders(number) {
+        return at;
+    }
+    if number == 15 {
+        return lines::put_words(b"two senders of the slot", out, at);
+    }
+    lines::put_words(b"a sender of the slot", out, at)
+}
+
+// Puts what a number says, where nobody is named, at a place; says where it ends.
+fn put_said_of_any(number: u8, out: &mut [u8], at: usize) -> usize
+    ensures { λ r. ⌜ Fits (now (out .entry)) at (saidOf number (anySenders number)) (now (out .exit)) r ⌝ }
+{
+    let a = put_any_senders(number, out, at);
+    put_saying(number, out, a)
+}
+
+// Puts senders by their names at a place, for 15 both; says where they end.
+fn put_the_senders(number: u8, names: Names, out: &mut [u8], at: usize) -> usize
+    ensures { λ r. ⌜ Fits (now (out .entry)) at (theSenders number names) (now (out .exit)) r ⌝ }
+{
+    let first = names.first as u16;
+    if number != 15 {
+        return lines::put_counted(b"sender ", first, out, at);
+    }
+    let second = names.second as u16;
+    let a = lines::put_counted(b"senders ", first, out, at);
+    lines::put_counted(b" and ", second, out, a)
+}
+
+// Puts whom a refusal is said of by name, and their slot, at a place; says where that ends.
+fn put_named_senders(outcome: Outcome, names: Names, out: &mut [u8], at: usize) -> usize
+    ensures { λ r. ⌜ Fits (now (out .entry)) at (subject (outcome .number) (namedSenders outcome names)) (now (out .exit)) r ⌝ }
+{
+    if !is_of_senders(outcome.number) {
+        return at;
+    }
+    let a = put_the_senders(outcome.number, names, out, at);
+    lines::put_counted(b" of slot ", outcome.place, out, a)
+}
+
+// Puts the number and the place of a refusal at a place; says where the colon behind them ends.
+fn put_refusal(outcome: Outcome, out: &mut [u8], at: usize) -> usize
+    ensures { λ r. ⌜ Fits (now (out .entry)) at (refusal outcome ++ text ": ") (now (out .exit)) r ⌝ }
 {
     let number = outcome.number as u16;
     let place = outcome.place;
     let a = lines::put_counted(b"refused ", number, out, at);
     let b = lines::put_counted(b" ", place, out, a);
-    let d = lines::put_words(b": ", out, b);
-    let e = put_saying(outcome.number, out, d);
-    lines::put_words(b"\n", out, e)
+    lines::put_words(b": ", out, b)
+}
+
+// Puts the line of a refusal that names nobody at a place; says where it ends.
+fn put_refused(outcome: Outcome, out: &mut [u8], at: usize) -> usize
+    ensures { λ r. ⌜ Fits (now (out .entry)) at (refusedLine outcome) (now (out .exit)) r ⌝ }
+{
+    let a = put_refusal(outcome, out, at);
+    let b = put_said_of_any(outcome.number, out, a);
+    lines::put_words(b"\n", out, b)
+}
+
+// Puts the line of a refusal by the judge at a place; says where it ends.
+fn put_blamed(outcome: Outcome, names: Names, out: &mut [u8], at: usize) -> usize
+    ensures { λ r. ⌜ Fits (now (out .entry)) at (blamedLine outcome names) (now (out .exit)) r ⌝ }
+{
+    let a = put_refusal(outcome, out, at);
+    let b = put_named_senders(outcome, names, out, a);
+    let d = put_saying(outcome.number, out, b);
+    lines::put_words(b"\n", out, d)
 }
 
 // As many bytes as a plan of ours can have, and no more.
@@ -173,13 +245,15 @@ fn put_planned(planned: Planned, out: &mut [u8], at: usize) -> usize
     lines::put_words(b" bytes\n", out, d)
 }
 
-// Puts the line of a verdict at a place; says where it ends.
-fn put_verdict(verdict: Verdict, out: &mut [u8], at: usize) -> usize
-    ensures { λ r. ⌜ Fits (now (out .entry)) at (verdictLine verdict) (now (out .exit)) r ⌝ }
+// Puts the line of the judge's answer at a place; says where it ends.
+fn put_verdict(judgement: Judgement, out: &mut [u8], at: usize) -> usize
+    ensures { λ r. ⌜ Fits (now (out .entry)) at (verdictLine judgement) (now (out .exit)) r ⌝ }
 {
+    let verdict = judgement.verdict;
     let outcome = verdict.outcome;
     if outcome.number != 0 {
-        return put_refused(outcome, out, at);
+        let names = judgement.names;
+        return put_blamed(outcome, names, out, at);
     }
     let a = lines::put_counted(b"passed ", verdict.slots, out, at);
     lines::put_words(b" slots\n", out, a)
@@ -196,8 +270,14 @@ fn put_choice(choice: Choice, out: &mut [u8], at: usize) -> usize
     }
 }
 
-// Puts the choice and both verdicts at a place; says where they end.
-fn put_chosen(choice: Choice, first: Verdict, second: Verdict, out: &mut [u8], at: usize) -> usize
+// Puts the choice and the judge's answer on both plans at a place; says where they end.
+fn put_chosen(
+    choice: Choice,
+    first: Judgement,
+    second: Judgement,
+    out: &mut [u8],
+    at: usize,
+) -> usize
     ensures { λ r. ⌜ Fits (now (out .entry)) at (choiceText choice first second) (now (out .exit)) r ⌝ }
 {
     let a = put_choice(choice, out, at);
@@ -226,7 +306,7 @@ fn put_misread(number: u8, place: u64, out: &mut [u8], at: usize) -> usize
     let b = lines::put_words(b" ", out, a);
     let d = lines::put_long(place, out, b);
     let e = lines::put_words(b": ", out, d);
-    let f = put_saying(number, out, e);
+    let f = put_said_of_any(number, out, e);
     lines::put_words(b"\n", out, f)
 }
 
@@ -252,19 +332,19 @@ pub fn planned(out: &mut [u8], planned: Planned) -> usize
     lines::put_words(&line[..n], out, 0)
 }
 
-// The same of a verdict.
-pub fn verdict(out: &mut [u8], verdict: Verdict) -> usize
+// The same of the judge's answer.
+pub fn verdict(out: &mut [u8], judgement: Judgement) -> usize
     ensures part { λ r. ⌜ (r ≤ length (now (out .exit))) × (r ≡ length (take r (now (out .exit)))) ⌝ }
-    ensures answer { λ r. ⌜ r ≡ lineLength (now (out .entry)) (verdictLine verdict) ⌝ }
-    ensures buffer { λ _. ⌜ now (out .exit) ≡ lineIn (now (out .entry)) (verdictLine verdict) ⌝ }
+    ensures answer { λ r. ⌜ r ≡ lineLength (now (out .entry)) (verdictLine judgement) ⌝ }
+    ensures buffer { λ _. ⌜ now (out .exit) ≡ lineIn (now (out .entry)) (verdictLine judgement) ⌝ }
 {
     let mut line = [0u8; ANY_ANSWER];
-    let n = put_verdict(verdict, &mut line, 0);
+    let n = put_verdict(judgement, &mut line, 0);
     lines::put_words(&line[..n], out, 0)
 }
 
-// The same of a choice and the verdicts on both plans.
-pub fn chosen(out: &mut [u8], choice: Choice, first: Verdict, second: Verdict) -> usize
+// The same of a choice and the judge's answers on both plans.
+pub fn chosen(out: &mut [u8], choice: Choice, first: Judgement, second: Judgement) -> usize
     ensures part { λ r. ⌜ (r ≤ length (now (out .exit))) × (r ≡ length (take r (now (out .exit)))) ⌝ }
     ensures answer { λ r. ⌜ r ≡ lineLength (now (out .entry)) (choiceText choice first second) ⌝ }
     ensures buffer { λ _. ⌜ now (out .exit) ≡ lineIn (now (out .entry)) (choiceText choice first second) ⌝ }

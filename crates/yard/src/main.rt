@@ -160,17 +160,18 @@ fn judge(sheet: &[u8]) -> u8 {
         return FAILED;
     }
     let n = io::count(got, &plan);
-    let verdict = judge::judge(sheet, &plan[..n]);
+    let judgement = judge::judgement(sheet, &plan[..n]);
+    let verdict = judgement.verdict;
     let outcome = verdict.outcome;
     let mut line = [0u8; wording::ANY_ANSWER];
-    let m = wording::verdict(&mut line, verdict);
+    let m = wording::verdict(&mut line, judgement);
     words::say_answer(STDOUT_FILENO, &line[..m], outcome)
 }
 
-// Says which of two plans was chosen, and the verdict on each.
+// Says which of two plans was chosen, and what the judge says of each.
 fn say_choice(to: i32, sheet: &[u8], first: &[u8], second: &[u8], choice: Choice) -> u8 {
-    let on_first = judge::judge(sheet, first);
-    let on_second = judge::judge(sheet, second);
+    let on_first = judge::judgement(sheet, first);
+    let on_second = judge::judgement(sheet, second);
     let status = if let Choice::Neither = choice {
         REFUSED
     } else {
@@ -283,7 +284,7 @@ fn run() -> u8 {
     let what = command_of(&word[..n], os::arg_count());
     match what {
         Command::Help => words::say_usage(STDOUT_FILENO, ANSWERED),
-        Command::Version => words::say(STDOUT_FILENO, b"yard 1.0\n", ANSWERED),
+        Command::Version => words::say(STDOUT_FILENO, b"yard 2.0\n", ANSWERED),
         Command::Unknown => words::say_usage(STDERR_FILENO, FAILED),
         _ => {
             if is_dash_twice() {

@@ -90,7 +90,7 @@ pub(crate) fn say_usage(to: i32, status: u8) -> u8 {
             \x20      yard list SHEET                    the plan by probe, as text\n\
             \x20      yard probe SHEET PLAN              the plan by probe, into the file PLAN\n\
             \x20      yard level SHEET PLAN              the plan by level, into the file PLAN\n\
-            \x20      yard judge SHEET PLAN              whether the plan passes\n\
+            \x20      yard judge SHEET PLAN              whether the plan passes, or who is to blame\n\
             \x20      yard choose SHEET PLAN PLAN [OUT]  the shorter of two plans that pass, also into the file OUT\n\
             \x20      yard graph SHEET TEXT              the conflicts as a graph in the DIMACS format, into the file TEXT\n\
             \x20      yard table TEXT                    a graph's text as a table\n\

@@ -1,10 +1,13 @@
--- `judge::plan_judged_by` meets its contract: the slots decide, then 16, then 17.
-use mathlib.Core.Path.{refl, sym, subst}
+-- `judge::plan_judged_by` meets its contract: the slots decide and name, then 16, then 17, which name nobody.
+use mathlib.Core.Path.{refl, sym, ap, subst}
 use mathlib.Core.List.{List}
+use mathlib.Core.Logic.{inl, inr}
 use Prim.Native.Nat.{ℕ}
+use native.Mathlib.Omega.{arith}
 use lib.ListN.{getD}
+use Rattle.meaning.specs.declared.Tested.{Tested}
 use Rattle.judge.specs.SlotTurn.{Ready}
-use Rattle.judge.proofs.Judging.{slots-decide, gives-16, gives-17, gives-0}
+use Rattle.judge.proofs.Judging.{slots-decide, slots-name, gives-16, gives-17, gives-0, unnamed-plan}
 use borrow.Author.Needs.{needs}
 use Rattle.judge.proofs.plan_judged_by.Statement.{statement}
 use Rattle.judge.proofs.plan_judged_by.Tie as tie
@@ -23,40 +26,50 @@ slots-judged-requires c κs =
 
 returns : tie.Need-returns
 returns c =
-    let judged = c .before .before .before in
-    slots-decide _ _ _ _ _ _ (judged .before .before .before .slot-count .ensures .0) _ (judged .before .before .wide .ensures)
-    _ _ _ (judged .slots-judged .ensures) (c .if1 .taken)
+    let end = c .before .before .before .before in
+    let many = end .before .before .before .slot-count .ensures .0 in
+    let start = end .before .before .wide .ensures in
+    let judged = end .slots-judged .ensures in
+    (slots-decide _ _ _ _ _ _ many _ start _ _ _ (judged .0) (c .if1 .taken), slots-name _ _ _ _ _ _ many _ start _ _ _ (judged .0) _ _ (judged .1))
 
-refusal-requires : tie.Need-refusal-requires
-refusal-requires c κs = search needs
+unnamed-requires : tie.Need-unnamed-requires
+unnamed-requires c κs = search needs
 
 returns-2 : tie.Need-returns-2
 returns-2 c =
-    let judged = c .before .before .before .before .before .before in
-    gives-16 _ _ _ _ _ _ (judged .before .before .before .slot-count .ensures .0) _ (judged .before .before .wide .ensures) _ _ _ (judged .slots-judged .ensures)
-    (c .before .before .before .if1 .left) _ (c .refusal .ensures) (c .before .if2 .taken)
+    let end = c .before .before .before .before .before .before .before in
+    let is = c .unnamed .ensures in (
+      gives-16 _ _ _ _ _ _ (end .before .before .before .slot-count .ensures .0) _ (end .before .before .wide .ensures) _ _ _ (end .slots-judged .ensures .0)
+          (c .before .before .before .if1 .left) _ (ap (λ (t : Tested). t .outcome) is) (c .before .if2 .taken),
+      unnamed-plan _ _ _ _ _ _ _ _ is (inr (omega arith)),
+    )
 
 any-outside-requires : tie.Need-any-outside-requires
 any-outside-requires c κs = search needs
 
-refusal-requires-2 : tie.Need-refusal-requires-2
-refusal-requires-2 c κs = search needs
+unnamed-requires-2 : tie.Need-unnamed-requires-2
+unnamed-requires-2 c κs = search needs
 
 returns-3 : tie.Need-returns-3
 returns-3 c =
-    let judged = c .before .before .before .before .before .before .before .before .before in
-    let counted = judged .before .before .before in
-    gives-17 _ _ _ _ _ _ (counted .slot-count .ensures .0) _ (judged .before .before .wide .ensures) _ _ _ (judged .slots-judged .ensures)
-    (c .before .before .before .before .before .before .if1 .left) (counted .before .before .pre .1 .few) (c .before .before .before .before .if2 .left)
-    _ (c .before .before .any-outside .ensures) _ (c .refusal2 .ensures) (c .before .if3 .taken)
+    let end = c .before .before .before .before .before .before .before .before .before .before in
+    let counted = end .before .before .before in
+    let is = c .unnamed2 .ensures in (
+      gives-17 _ _ _ _ _ _ (counted .slot-count .ensures .0) _ (end .before .before .wide .ensures) _ _ _ (end .slots-judged .ensures .0)
+          (c .before .before .before .before .before .before .if1 .left) (counted .before .before .pre .1 .few) (c .before .before .before .before .if2 .left)
+          _ (c .before .before .any-outside .ensures) _ (ap (λ (t : Tested). t .outcome) is) (c .before .if3 .taken),
+      unnamed-plan _ _ _ _ _ _ _ _ is (inr (omega arith)),
+    )
 
 returns-4 : tie.Need-returns-4
 returns-4 c =
-    let judged = c .before .before .before .before .before .before .before .before in
-    let counted = judged .before .before .before in
-    gives-0 _ _ _ _ _ _ (counted .slot-count .ensures .0) _ (judged .before .before .wide .ensures) _ _ _ (judged .slots-judged .ensures)
-    (c .before .before .before .before .before .if1 .left) (counted .before .before .pre .1 .few) (c .before .before .before .if2 .left)
-    _ (c .before .any-outside .ensures) _ refl (c .if3 .left)
+    let end = c .before .before .before .before .before .before .before .before .before in
+    let counted = end .before .before .before in (
+      gives-0 _ _ _ _ _ _ (counted .slot-count .ensures .0) _ (end .before .before .wide .ensures) _ _ _ (end .slots-judged .ensures .0)
+          (c .before .before .before .before .before .if1 .left) (counted .before .before .pre .1 .few) (c .before .before .before .if2 .left)
+          _ (c .before .any-outside .ensures) _ refl (c .if3 .left),
+      unnamed-plan _ _ _ _ _ _ 0 0 refl (inl (omega arith)),
+    )
 
 pub plan-judged-by-spec : {M : Type 1} → statement M
 plan-judged-by-spec =
@@ -66,9 +79,9 @@ plan-judged-by-spec =
     wide-requires
     slots-judged-requires
     returns
-    refusal-requires
+    unnamed-requires
     returns-2
     any-outside-requires
-    refusal-requires-2
+    unnamed-requires-2
     returns-3
     returns-4)

@@ -1,6 +1,11 @@
 -- `judge::slot_judged` meets its contract: the part lent from the middle of the plan is the slot, and a slot that passed has senders that may send.
+use mathlib.Core.Path.{sym, ap}
+use mathlib.Core.Logic.{inl}
+use native.Mathlib.Omega.{arith}
+use Rattle.meaning.specs.declared.Outcome.{Outcome}
+use Rattle.laws.proofs.Naming.{names-else}
 use Rattle.slot.proofs.Places.{part-read}
-use Rattle.judge.proofs.SlotTurn.{turn-short, turn-refused, turn-passed}
+use Rattle.judge.proofs.SlotTurn.{turn-short, turn-refused, turn-passed, outcome-tested, names-tested, names-passed}
 use borrow.Author.Needs.{needs}
 use Rattle.judge.proofs.slot_judged.Statement.{statement}
 use Rattle.judge.proofs.slot_judged.Tie as tie
@@ -13,8 +18,10 @@ refusal-requires c κs = search needs
 
 returns : tie.Need-returns
 returns c =
-    let read = c .before .before in
-    turn-short _ _ _ (read .slot-at .ensures) (read .before .before .pre .0) _ _ _ _ _ _ (c .refusal .ensures) (c .before .if1 .taken)
+    let read = c .before .before in (
+      turn-short _ _ _ (read .slot-at .ensures) (read .before .before .pre .0) _ _ _ _ _ _ (c .refusal .ensures) (c .before .if1 .taken),
+      sym (names-else _ _ _ _ _ (inl (omega (arith, ap (λ (o : Outcome). o .number) (c .refusal .ensures))))),
+    )
 
 sub-slot : tie.Need-sub-slot
 sub-slot c = part-read _ _ _ (c .before .slot-at .ensures) (c .before .before .before .pre .0)
@@ -25,25 +32,34 @@ part-slot-start c = part-read _ _ _ (c .before .slot-at .ensures) (c .before .be
 part-slot-end : tie.Need-part-slot-end
 part-slot-end c = search needs
 
-slot-test-requires : tie.Need-slot-test-requires
-slot-test-requires c κs = search needs
+slot-tested-requires : tie.Need-slot-tested-requires
+slot-tested-requires c κs = search needs
 
 returns-2 : tie.Need-returns-2
 returns-2 c =
-    let read = c .before .before .before .before .before .before in
+    let tested = c .before .before .before .before in
+    let read = tested .before .before .before .before in
     let start = read .before .before in
-    turn-refused _ _ _ (read .slot-at .ensures) (start .pre .0) _ _ _ _ _ _ (c .before .before .before .before .before .if1 .left) (start .pre .1)
-    (c .before .before .slot-test .ensures) (c .if2 .taken)
+    let is = tested .slot-tested .ensures in (
+      turn-refused _ _ _ (read .slot-at .ensures) (start .pre .0) _ _ _ _ _ _ (tested .before .before .before .if1 .left) (start .pre .1)
+          (outcome-tested _ _ _ (read .slot-at .ensures) (start .pre .0) _ (start .pre .1 .few) _ _ _ _ is) (c .if2 .taken),
+      names-tested _ _ _ (read .slot-at .ensures) (start .pre .0) _ (start .pre .1 .few) _ _ _ _ is,
+    )
 
 move-packets-requires : tie.Need-move-packets-requires
 move-packets-requires c κs = search needs
 
 returns-3 : tie.Need-returns-3
 returns-3 c =
-    let read = c .before .before .before .before .before .before .before .before in
+    let tested = c .before .before .before .before .before .before in
+    let read = tested .before .before .before .before in
     let start = read .before .before in
-    turn-passed _ _ _ (read .slot-at .ensures) (start .pre .0) _ _ _ _ _ _ (c .before .before .before .before .before .before .before .if1 .left) (start .pre .1)
-    (c .before .before .before .before .slot-test .ensures) (c .before .before .if2 .left) _ (c .move-packets .ensures)
+    let is = tested .slot-tested .ensures in (
+      turn-passed _ _ _ (read .slot-at .ensures) (start .pre .0) _ _ _ _ _ _ (tested .before .before .before .if1 .left) (start .pre .1)
+          (outcome-tested _ _ _ (read .slot-at .ensures) (start .pre .0) _ (start .pre .1 .few) _ _ _ _ is) (c .before .before .if2 .left) _
+          (c .move-packets .ensures),
+      names-passed _ _ _ (read .slot-at .ensures) (start .pre .0) _ (start .pre .1 .few) _ _ _ _ is (c .before .before .if2 .left) _ _,
+    )
 
 pub slot-judged-spec : {M : Type 1} → statement M
 slot-judged-spec =
@@ -55,7 +71,7 @@ slot-judged-spec =
     sub-slot
     part-slot-start
     part-slot-end
-    slot-test-requires
+    slot-tested-requires
     returns-2
     move-packets-requires
     returns-3)

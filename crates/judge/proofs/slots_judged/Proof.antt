@@ -1,7 +1,11 @@
 -- `judge::slots_judged` meets its contract: as far as slot k the definition has come to the same, the packets held together stay, and a refusal stays.
+use mathlib.Core.Path.{sym}
+use mathlib.Core.Logic.{inl}
 use Prim.Native.Nat.{_-_}
+use native.Mathlib.Omega.{arith}
 use Rattle.meaning.specs.Words.{byNode}
 use Rattle.meaning.specs.Conflict.{entry}
+use Rattle.laws.proofs.Naming.{names-else}
 use Rattle.judge.proofs.SlotBySlot.{Going, going-starts, going-on, going-stops, going-ends}
 use borrow.Author.Needs.{needs}
 use Rattle.judge.proofs.slots_judged.Statement.{statement}
@@ -27,8 +31,9 @@ slot-judged-requires c κs = (c .before .before .loop .inv .inside, c .before .b
 
 returns : tie.Need-returns Inv-loop μ-loop
 returns c =
+    let one = c .before .before .before .slot-judged in
     let test = c .before .before .before .before .before in
-    going-stops _ _ _ _ (test .before .loop .inv) (test .loop-test .taken) _ _ _ (c .before .before .before .slot-judged .ensures) (c .if1 .taken)
+    (going-stops _ _ _ _ (test .before .loop .inv) (test .loop-test .taken) _ _ _ (one .ensures .0) (c .if1 .taken), one .ensures .1)
 
 add-k : tie.Need-add-k Inv-loop μ-loop
 add-k c = search needs
@@ -39,10 +44,12 @@ loop-less c = search needs
 loop-again : tie.Need-loop-again Inv-loop μ-loop
 loop-again c =
     let test = c .before .before .before .before .before in
-    going-on _ _ _ _ (test .before .loop .inv) (test .loop-test .taken) _ _ _ (c .before .before .before .slot-judged .ensures) (c .if1 .left)
+    going-on _ _ _ _ (test .before .loop .inv) (test .loop-test .taken) _ _ _ (c .before .before .before .slot-judged .ensures .0) (c .if1 .left)
 
 returns-2 : tie.Need-returns-2 Inv-loop μ-loop
-returns-2 c = going-ends _ _ _ _ (c .before .loop .inv) (c .loop-test .left)
+returns-2 c =
+    let l = c .before .loop in
+    (going-ends _ _ _ _ (l .inv) (c .loop-test .left), sym (names-else _ _ _ _ _ (inl (omega (arith, l .inv .clean)))))
 
 pub slots-judged-spec : {M : Type 1} → statement M
 slots-judged-spec =

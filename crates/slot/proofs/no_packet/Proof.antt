@@ -1,18 +1,18 @@
 -- `slot::no_packet` meets its contract: each sender before i holds a packet.
-use mathlib.Core.Path.{sym, ap}
+use mathlib.Core.Path.{ap}
 use mathlib.Core.Bool.{not}
 use Prim.Native.Nat.{_-_}
 use borrow.Author.Tests.{lt-ltb, le-ltb}
 use lib.ListN.{length, getD}
-use Rattle.meaning.specs.Rounds.{holds}
-use Rattle.slot.proofs.Looking.{Looking, looking-starts, looking-on, looking-found, looking-ends}
+use Rattle.meaning.specs.Judge.{noPacket}
+use Rattle.slot.proofs.Looking.{Looking, looking-starts, looking-on, looking-stops, looking-past}
 use native.Mathlib.Omega.{arith}
 use borrow.Author.Needs.{needs}
 use Rattle.slot.proofs.no_packet.Statement.{statement}
 use Rattle.slot.proofs.no_packet.Tie as tie
 
 abbrev Inv-loop : tie.InvT-loop
-Inv-loop held slot i₀ i = Looking (λ k. not (holds held (getD slot k 0))) (length slot) i
+Inv-loop held slot i₀ i = Looking (noPacket held slot) (length slot) i
 
 abbrev μ-loop : tie.MeasureT-loop
 μ-loop held slot i₀ i = length slot - i
@@ -35,9 +35,9 @@ element-copy-out-if1 c = omega (arith, c .before .before .before .pre (c .before
 returns : tie.Need-returns Inv-loop μ-loop
 returns c =
     let a = c .before .before .before .before .before .args in
-    let i = c .before .before .before .before .loop .i in
-    looking-found _ _ i (c .before .before .before .loop-test .taken)
-    (ap not (le-ltb 0 (getD (a .held .now) (getD (a .slot .now) i 0) 0) (omega (arith, c .if1 .taken))))
+    let l = c .before .before .before .before .loop in
+    looking-stops (l .inv) (c .before .before .before .loop-test .taken)
+    (ap not (le-ltb 0 (getD (a .held .now) (getD (a .slot .now) (l .i) 0) 0) (omega (arith, c .if1 .taken))))
 
 add-i : tie.Need-add-i Inv-loop μ-loop
 add-i c = search needs
@@ -53,7 +53,7 @@ loop-again c =
     (ap not (lt-ltb 0 (getD (a .held .now) (getD (a .slot .now) (l .i) 0) 0) (omega (arith, c .if1 .left))))
 
 returns-2 : tie.Need-returns-2 Inv-loop μ-loop
-returns-2 c = sym (looking-ends (c .before .loop .inv) (c .loop-test .left))
+returns-2 c = looking-past (c .before .loop .inv) (c .loop-test .left)
 
 pub no-packet-spec : {M : Type 1} → statement M
 no-packet-spec =

@@ -2,16 +2,16 @@
 use mathlib.Core.Path.{_≡_, sym, ap, _∙_}
 use mathlib.Core.Bool.{not}
 use Prim.Native.Nat.{_-_}
-use lib.ListN.{length, getD}
-use Rattle.meaning.specs.Yard.{isProbe}
+use lib.ListN.{length}
+use Rattle.meaning.specs.Judge.{noProbe}
 use Rattle.laws.specs.Few.{atMost63}
-use Rattle.slot.proofs.Looking.{Looking, looking-starts, looking-on, looking-found, looking-ends}
+use Rattle.slot.proofs.Looking.{Looking, looking-starts, looking-on, looking-stops, looking-past}
 use borrow.Author.Needs.{needs}
 use Rattle.slot.proofs.no_probe.Statement.{statement}
 use Rattle.slot.proofs.no_probe.Tie as tie
 
 abbrev Inv-loop : tie.InvT-loop
-Inv-loop p slot probes i₀ i = (probes ≡ atMost63 p) × Looking (λ k. not (isProbe probes (getD slot k 0))) (length slot) i
+Inv-loop p slot probes i₀ i = (probes ≡ atMost63 p) × Looking (noProbe probes slot) (length slot) i
 
 abbrev μ-loop : tie.MeasureT-loop
 μ-loop p slot probes i₀ i = length slot - i
@@ -32,7 +32,7 @@ returns : tie.Need-returns Inv-loop μ-loop
 returns c =
     let l = c .before .before .before .before .loop in
     rw (← l .inv .0)
-    (looking-found _ _ (l .i) (c .before .before .before .loop-test .taken) (ap not (sym (c .before .is-probe .ensures)) ∙ c .if1 .taken))
+    (looking-stops (l .inv .1) (c .before .before .before .loop-test .taken) (ap not (sym (c .before .is-probe .ensures)) ∙ c .if1 .taken))
 
 add-i : tie.Need-add-i Inv-loop μ-loop
 add-i c = search needs
@@ -46,7 +46,7 @@ loop-again c =
     (l .inv .0, looking-on (l .inv .1) (c .before .before .before .loop-test .taken) (ap not (sym (c .before .is-probe .ensures)) ∙ c .if1 .left))
 
 returns-2 : tie.Need-returns-2 Inv-loop μ-loop
-returns-2 c = let l = c .before .loop in rw (← l .inv .0) (sym (looking-ends (l .inv .1) (c .loop-test .left)))
+returns-2 c = let l = c .before .loop in rw (← l .inv .0) (looking-past (l .inv .1) (c .loop-test .left))
 
 pub no-probe-spec : {M : Type 1} → statement M
 no-probe-spec =

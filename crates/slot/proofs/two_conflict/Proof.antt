@@ -1,39 +1,36 @@
 -- `slot::two_conflict` meets its contract: the outer loop has looked at each pair whose first is before i, the inner one at those of i whose second is
 -- before j; the label is left with the two found.
-use mathlib.Core.Path.{_≡_, sym, ap₂, _∙_}
-use mathlib.Core.Bool.{Bool, false, _&&_}
-use mathlib.Core.List.{List}
+use mathlib.Core.Path.{_≡_, ap₂, _∙_}
+use mathlib.Core.Bool.{_&&_}
 use Prim.Native.Nat.{ℕ, _-_, _<_}
 use borrow.Author.Tests.{lt-ltb}
-use lib.Dec.{ltb}
-use lib.ListN.{length, getD}
+use lib.ListN.{length}
 use Rattle.meaning.specs.Words.{some}
 use Rattle.meaning.specs.Conflict.{entry}
-use Rattle.laws.proofs.Turns.{some-found}
-use Rattle.slot.proofs.Looking.{Looking, looking-starts, looking-on, looking-found, looking-ends, looking-above, looking-last}
+use Rattle.meaning.specs.Judge.{conflictBehind}
+use Rattle.slot.proofs.Looking.{Looking, looking-starts, looking-on, looking-ends, looking-above}
+use Rattle.slot.proofs.Pairs.{two-stop, two-none}
 use native.Mathlib.Omega.{arith}
 use borrow.Author.Needs.{needs}
 use Rattle.slot.proofs.two_conflict.Statement.{statement}
 use Rattle.slot.proofs.two_conflict.Tie as tie
 
--- sender j stands behind sender i and conflicts with it
-abbrev pairs : List (List Bool) → List ℕ → ℕ → ℕ → Bool
-pairs table slot i j = ltb i j && entry table (getD slot i 0) (getD slot j 0)
-
 abbrev Inv-loop : tie.InvT-loop
-Inv-loop table slot found₀ i x j₀ found j = (found ≡ false) × (i < j) × Looking (pairs table slot i) (length slot) j
+Inv-loop table slot first₀ second₀ i x j₀ first second j =
+    (first ≡ length slot) × (second ≡ length slot) × (i < j) × Looking (conflictBehind (entry table) slot i) (length slot) j
 
 abbrev μ-loop : tie.MeasureT-loop
-μ-loop table slot found₀ i x j₀ found j = length slot - j
+μ-loop table slot first₀ second₀ i x j₀ first second j = length slot - j
 
 abbrev Inv-pairs : tie.InvT-pairs
-Inv-pairs table slot found₀ i₀ found i = (found ≡ false) × Looking (λ k. some (length slot) (pairs table slot k)) (length slot) i
+Inv-pairs table slot first₀ second₀ i₀ first second i =
+    (first ≡ length slot) × (second ≡ length slot) × Looking (λ k. some (length slot) (conflictBehind (entry table) slot k)) (length slot) i
 
 abbrev μ-pairs : tie.MeasureT-pairs
-μ-pairs table slot found₀ i₀ found i = length slot - i
+μ-pairs table slot first₀ second₀ i₀ first second i = length slot - i
 
 pairs-holds : tie.Need-pairs-holds Inv-loop μ-loop Inv-pairs μ-pairs
-pairs-holds c = (search needs, looking-starts)
+pairs-holds c = (search needs, search needs, looking-starts)
 
 add-pairs : tie.Need-add-pairs Inv-loop μ-loop Inv-pairs μ-pairs
 add-pairs c = search needs
@@ -48,7 +45,9 @@ add-j : tie.Need-add-j Inv-loop μ-loop Inv-pairs μ-pairs
 add-j c = search needs
 
 loop-holds : tie.Need-loop-holds Inv-loop μ-loop Inv-pairs μ-pairs
-loop-holds c = (c .before .before .pairs .inv .0, search needs, looking-above _ _ _ (search needs))
+loop-holds c =
+    let l = c .before .before .pairs in
+    (l .inv .0, l .inv .1, search needs, looking-above _ _ _ (search needs))
 
 shared-slice-read-y : tie.Need-shared-slice-read-y Inv-loop μ-loop Inv-pairs μ-pairs
 shared-slice-read-y c = search needs
@@ -75,8 +74,9 @@ loop-again : tie.Need-loop-again Inv-loop μ-loop Inv-pairs μ-pairs
 loop-again c =
     let l = c .before .before .before .before .loop in (
       l .inv .0,
+      l .inv .1,
       search needs,
-      looking-on (l .inv .2) (c .before .before .before .loop-test .taken) (ap₂ _&&_ (lt-ltb _ _ (l .inv .1)) (c .if1 .left)),
+      looking-on (l .inv .3) (c .before .before .before .loop-test .taken) (ap₂ _&&_ (lt-ltb _ _ (l .inv .2)) (c .if1 .left)),
     )
 
 add-i : tie.Need-add-i Inv-loop μ-loop Inv-pairs μ-pairs
@@ -88,19 +88,19 @@ pairs-less c = search needs
 pairs-again : tie.Need-pairs-again Inv-loop μ-loop Inv-pairs μ-pairs
 pairs-again c =
     let l = c .before .loop in
-    (l .inv .0, looking-on (c .before .before .before .before .pairs .inv .1) (search needs) (looking-ends (l .inv .2) (c .loop-test .left)))
+    (l .inv .0, l .inv .1, looking-on (c .before .before .before .before .pairs .inv .2) (search needs) (looking-ends (l .inv .3) (c .loop-test .left)))
 
 returns : tie.Need-returns Inv-loop μ-loop Inv-pairs μ-pairs
-returns c = c .before .pairs .inv .0 ∙ sym (looking-last _ _ _ (c .before .pairs .inv .1) (c .pairs-test .left))
+returns c =
+    let l = c .before .pairs in
+    ap₂ (λ (x y : ℕ). record { first = x; second = y }) (l .inv .0) (l .inv .1) ∙ two-none _ _ _ (l .inv .2) (c .pairs-test .left)
 
 returns-2 : tie.Need-returns-2 Inv-loop μ-loop Inv-pairs μ-pairs
 returns-2 c =
     let l = c .before .before .before .before .loop in
-    let a = c .before .before .before .before .before .before .before .before .args in
-    let i = c .before .before .before .before .before .before .before .pairs .i in
-    looking-found _ _ i (search needs)
-    (some-found _ (pairs (a .table .now) (a .slot .now) i) (l .j) (c .before .before .before .loop-test .taken)
-    (ap₂ _&&_ (lt-ltb _ _ (l .inv .1)) (c .if1 .taken)))
+    let outer = c .before .before .before .before .before .before .before .pairs in
+    two-stop _ _ _ _ (outer .inv .2) (l .inv .3) (search needs) (c .before .before .before .loop-test .taken)
+    (ap₂ _&&_ (lt-ltb _ _ (l .inv .2)) (c .if1 .taken))
 
 pub two-conflict-spec : {M : Type 1} → statement M
 two-conflict-spec =

@@ -5,10 +5,6 @@ use Rattle.wording.specs.Saying.{misreadLine}
 use Rattle.wording.proofs.Fitting.{put-whole, put-behind}
 use Rattle.wording.proofs.put_misread.Statement.{statement}
 use Rattle.wording.proofs.put_misread.Tie as tie
-use Rattle.lines.proofs.put_counted.Reads as put-counted-reads
-use Rattle.lines.proofs.put_long.Reads as put-long-reads
-use Rattle.lines.proofs.put_words.Reads as put-words-reads
-use Rattle.wording.proofs.put_saying.Reads as put-saying-reads
 
 slice-aggregate-put-counted : tie.Need-slice-aggregate-put-counted
 slice-aggregate-put-counted c = search needs
@@ -31,8 +27,8 @@ slice-aggregate-put-words-2 c = search needs
 put-words-requires-2 : tie.Need-put-words-requires-2
 put-words-requires-2 c κs = search needs
 
-put-saying-requires : tie.Need-put-saying-requires
-put-saying-requires c κs = search needs
+put-said-of-any-requires : tie.Need-put-said-of-any-requires
+put-said-of-any-requires c κs = search needs
 
 slice-aggregate-put-words-3 : tie.Need-slice-aggregate-put-words-3
 slice-aggregate-put-words-3 c = search needs
@@ -57,7 +53,7 @@ returns c =
     (put-behind
     (put-behind (put-behind (put-whole (number .put-counted .ensures)) (put-whole (blank .put-words .ensures))) (put-whole (place .put-long .ensures)))
     (put-whole (colon .put-words2 .ensures)))
-    (words .put-saying .ensures))
+    (words .put-said-of-any .ensures))
     (put-whole (newline .put-words3 .ensures))
 
 pub put-misread-spec : {M : Type 1} → statement M
@@ -71,7 +67,7 @@ put-misread-spec =
     put-long-requires
     slice-aggregate-put-words-2
     put-words-requires-2
-    put-saying-requires
+    put-said-of-any-requires
     slice-aggregate-put-words-3
     put-words-requires-3
     same-length

@@ -7,15 +7,17 @@ use Rattle.wording.proofs.Saying.{passed-line, failed-line}
 use Rattle.wording.proofs.put_verdict.Statement.{statement}
 use Rattle.wording.proofs.put_verdict.Tie as tie
 
-put-refused-requires : tie.Need-put-refused-requires
-put-refused-requires c κs = search needs
+put-blamed-requires : tie.Need-put-blamed-requires
+put-blamed-requires c κs = search needs
 
 same-length : tie.Need-same-length
 same-length c = search needs
 
 returns : tie.Need-returns
 returns c =
-    put-same (sym (failed-line _ (c .before .before .before .before .if1 .taken))) (c .before .before .put-refused .ensures)
+    let put = c .before .before in
+    let failed = put .before .before .before in
+    put-same (sym (failed-line (failed .before .before .before .before .before .args .judgement) (failed .if1 .taken))) (put .put-blamed .ensures)
 
 slice-aggregate-put-counted : tie.Need-slice-aggregate-put-counted
 slice-aggregate-put-counted c = search needs
@@ -37,14 +39,15 @@ unfolding text
 returns-2 c =
     let end = c .before .before in
     let slots = end .before .before .before .before .before in
-    put-same (sym (passed-line (slots .before .before .before .before .before .before .before .args .verdict) (slots .before .before .before .if1 .left)))
+    let passed = slots .before .before .before in
+    put-same (sym (passed-line (passed .before .before .before .before .before .args .judgement) (passed .if1 .left)))
     (put-behind (put-whole (slots .put-counted .ensures)) (put-whole (end .put-words .ensures)))
 
 pub put-verdict-spec : {M : Type 1} → statement M
 put-verdict-spec =
     tie.close
     (tie.spec
-    put-refused-requires
+    put-blamed-requires
     same-length
     returns
     slice-aggregate-put-counted
