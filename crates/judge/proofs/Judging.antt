@@ -25,13 +25,13 @@ use Rattle.laws.proofs.Accepted.{then-stays, then-goes}
 use Rattle.laws.proofs.Grounds.{few-probes, few-packets, parent-node}
 use Rattle.laws.proofs.Walk.{not-both}
 use Rattle.laws.proofs.Exact.{passed-good, good-passed}
-use Rattle.laws.proofs.Naming.{names-else}
 use Rattle.laws.specs.Few.{atMost63}
 use Rattle.laws.proofs.Few.{as-many}
 use Rattle.sheet.specs.declared.Tree.{Tree}
 use Rattle.sheet.specs.Tree.{treeOf}
 use Rattle.sheet.proofs.Standing.{Standing, standing, outcome-read, parents-read, conflicts-read}
-use Rattle.judge.specs.SlotTurn.{judgingFrom, Ready, refusedVerdict}
+use Rattle.judge.specs.SlotTurn.{judgingFrom, Ready, unnamedAt, refusedVerdict}
+use Rattle.judge.proofs.SlotTurn.{names-unnamed}
 use Rattle.judge.proofs.SlotBySlot.{come}
 
 -- the stages behind the slots: `o`, `at` and `held` are what the slots came to
@@ -91,13 +91,9 @@ module _ (p : ℕ) (parent : ℕ → ℕ) (relation : ℕ → ℕ → Bool) (pac
 
 -- 16, 17 and what passes name nobody
 pub unnamed-plan : (p : ℕ) (parent : ℕ → ℕ) (relation : ℕ → ℕ → Bool) (packets plan : List ℕ) (t : Tested) (number place : ℕ)
-    → t ≡ record { outcome = record { number = number; place = place }; names = nobody } → (number < 12) ⊎ (15 < number)
-    → t .names ≡ planNamesBy p parent relation packets plan (t .outcome .number)
+    → t ≡ unnamedAt number place → (number < 12) ⊎ (15 < number) → t .names ≡ planNamesBy p parent relation packets plan (t .outcome .number)
 unfolding planNamesBy
-unnamed-plan p parent relation packets plan t number place is else =
-    ap (λ (x : Tested). x .names) is
-    ∙ sym (names-else p relation _ _ number else)
-    ∙ ap (λ (x : Tested). namesAt p relation plan (slotsDone p parent relation packets plan) (x .outcome .number)) (sym is)
+unnamed-plan p parent relation packets plan t number place is else = names-unnamed p relation _ _ t number place is else
 
 meant : (s plan : List ℕ) → planJudgedBy (probeCount s) (parentOf s) (entry (conflictTable s)) (tab places (packetsOf s)) plan ≡ planJudged s plan
 unfolding planJudgedBy planJudged
@@ -222,9 +218,12 @@ module _ (s plan : List ℕ) where
     names-plan v names is e = with-names v names is (e ∙ ap (λ (b : Bool). named b (v .outcome .number)) (sym accepted-sheet))
 
     -- nor does a count that is cut
-    pub names-count : (v : Verdict) → v ≡ judge s plan → v .outcome .number ≡ 11 → record { verdict = v; names = nobody } ≡ judgement s plan
-    unfolding planNames planNamesBy
-    names-count v is e = names-plan v nobody is (sym (names-else _ _ _ _ (v .outcome .number) (inl (omega (arith, e)))))
+    pub names-count : (t : Tested) → refusedVerdict (t .outcome) ≡ judge s plan → t ≡ unnamedAt 11 0
+        → record { verdict = refusedVerdict (t .outcome); names = t .names } ≡ judgement s plan
+    unfolding planNames
+    names-count t is eleven =
+        names-plan (refusedVerdict (t .outcome)) (t .names) is
+        (unnamed-plan (probeCount s) (parentOf s) (entry (conflictTable s)) (tab places (packetsOf s)) plan t 11 0 eleven (inl (omega arith)))
 
 -- the answer is exact, whatever is said of the plan's first two bytes where it passes
 module _ (s plan : List ℕ) (r : Judgement) (is : r ≡ judgement s plan) where

@@ -27,7 +27,7 @@ use Rattle.laws.proofs.Passed.{passed, Passes, Refused, turn}
 use Rattle.laws.proofs.Naming.{names-else}
 use Rattle.laws.proofs.Running.{each-at}
 use Rattle.slot.proofs.Within.{moved-within}
-use Rattle.judge.specs.SlotTurn.{judgingFrom, Ready}
+use Rattle.judge.specs.SlotTurn.{judgingFrom, Ready, unnamedAt}
 
 module _ (p : ℕ) (parent : ℕ → ℕ) (relation : ℕ → ℕ → Bool) (plan : List ℕ) (place : ℕ) (now : Judging) where
   abbrev slot : List ℕ
@@ -128,3 +128,11 @@ module _ (plan : List ℕ) (at : ℕ) (here : SlotAt) (is : here ≡ slotAt plan
   pub names-passed : t .outcome .number ≡ 0 → (held′ slot′ : List ℕ) → t .names ≡ slotNames p relation held′ slot′ (t .outcome .number)
   names-passed none held′ slot′ =
       names-tested ∙ names-else p relation held (sendersAt plan at) _ (inl (omega arith)) ∙ sym (names-else p relation held′ slot′ _ (inl (omega arith)))
+
+-- 11, 16, 17 and what passes name nobody, in whatever slot
+pub names-unnamed : (p : ℕ) (relation : ℕ → ℕ → Bool) (held slot : List ℕ) (t : Tested) (number place : ℕ) → t ≡ unnamedAt number place
+    → (number < 12) ⊎ (15 < number) → t .names ≡ slotNames p relation held slot (t .outcome .number)
+names-unnamed p relation held slot t number place is else =
+    ap (λ (x : Tested). x .names) is
+    ∙ sym (names-else p relation held slot number else)
+    ∙ ap (λ (x : Tested). slotNames p relation held slot (x .outcome .number)) (sym is)

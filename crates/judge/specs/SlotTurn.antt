@@ -5,17 +5,26 @@ use mathlib.Core.List.{List}
 use Prim.Native.Nat.{ℕ, _≤_, _<_}
 use lib.ListN.{length}
 use Rattle.meaning.specs.declared.Outcome.{Outcome}
+use Rattle.meaning.specs.declared.Tested.{Tested}
 use Rattle.meaning.specs.declared.Verdict.{Verdict}
-use Rattle.meaning.specs.Words.{places}
+use Rattle.meaning.specs.Words.{Bytes, Relation, places}
 use Rattle.meaning.specs.Yard.{isProbe}
 use Rattle.meaning.specs.Answer.{accepted}
-use Rattle.meaning.specs.Judge.{Judging}
+use Rattle.meaning.specs.Judge.{Judging, nobody, namesAt}
 use Rattle.laws.proofs.Moving.{weigh}
 use Rattle.judge.specs.declared.Judged.{Judged}
 
 -- how far the judge has come, as the code has it: the packets held stand beside the rest
 abbrev pub judging : Judged → List ℕ → Judging
-judging now held = record { outcome = now .outcome; at = now .at; held = held }
+judging now held = record { outcome = now .tested .outcome; at = now .at; held = held }
+
+-- it names whom its number names in the slot that it has come to
+abbrev pub Named : (p : ℕ) → Relation → (plan : Bytes) → Judged → List ℕ → Type 0
+Named p relation plan now held = now .tested .names ≡ namesAt p relation plan (judging now held) (now .tested .outcome .number)
+
+-- a number at its place that names nobody
+abbrev pub unnamedAt : (number place : ℕ) → Tested
+unnamedAt number place = record { outcome = record { number = number; place = place }; names = nobody }
 
 -- nothing wrong so far, the next slot at a place
 abbrev pub judgingFrom : ℕ → List ℕ → Judging

@@ -5,12 +5,11 @@ ghost use Prim.Native.Nat.{_≤_};
 ghost use lib.ListN.{length};
 ghost use Rattle.meaning.specs.Words.{byNode};
 ghost use Rattle.meaning.specs.Conflict.{entry};
-ghost use Rattle.meaning.specs.Judge.{slotJudged, slotsJudged, planJudgedBy, nobody, namesAt, planNamesBy, judgement};
+ghost use Rattle.meaning.specs.Judge.{slotJudged, slotsJudged, planJudgedBy, planNamesBy, judgement};
 ghost use Rattle.meaning.specs.Answer.{isAccepted};
 ghost use Rattle.meaning.specs.Legal.{Good};
-ghost use Rattle.judge.specs.SlotTurn.{judging, judgingFrom, Ready, refusedVerdict};
+ghost use Rattle.judge.specs.SlotTurn.{judging, judgingFrom, Named, Ready, unnamedAt, refusedVerdict};
 use meaning::Judgement;
-use meaning::Names;
 use meaning::Outcome;
 use meaning::Slot;
 use meaning::Tested;
@@ -18,16 +17,18 @@ use meaning::Verdict;
 
 // How far the judge has come: what is wrong so far and whom it names, and where the next slot begins.
 struct Judged {
-    outcome: Outcome,
-    names: Names,
+    tested: Tested,
     at: usize,
 }
 
-// The number of a refusal at its place.
-fn refusal(number: u8, place: u16) -> Outcome
-    ensures { λ r. ⌜ r ≡ record { number = number; place = place } ⌝ }
+// A refusal that names nobody.
+fn unnamed(number: u8, place: u16) -> Tested
+    ensures { λ r. ⌜ r ≡ unnamedAt number place ⌝ }
 {
-    Outcome { number, place }
+    Tested {
+        outcome: Outcome { number, place },
+        names: meaning::NOBODY,
+    }
 }
 
 // The slot at a place, 11 first, which names nobody; a passed slot moves its packets.
@@ -44,32 +45,23 @@ fn slot_judged(
     requires ready { ⌜ Ready p (byNode (now parents)) (now held) ⌝ }
     ensures answer { λ r. ⌜ judging r (now (held .exit))
         ≡ slotJudged p (byNode (now (parents .entry))) (entry (now (table .entry))) (now (plan .entry)) (number .0) (judgingFrom at (now (held .entry))) ⌝ }
-    ensures names { λ r. ⌜ r .names ≡ namesAt p (entry (now (table .entry))) (now (plan .entry)) (judging r (now (held .exit))) (r .outcome .number) ⌝ }
+    ensures names { λ r. ⌜ Named p (entry (now (table .entry))) (now (plan .entry)) r (now (held .exit)) ⌝ }
 {
     let here = slot::slot_at(plan, at);
     let first = here.first;
     let next = here.next;
     if plan.len() < next {
-        let outcome = refusal(11, number.0);
-        return Judged {
-            outcome,
-            names: meaning::NOBODY,
-            at,
-        };
+        let tested = unnamed(11, number.0);
+        return Judged { tested, at };
     }
     let slot = &plan[first..next];
     let tested = slot::slot_tested(p, table, held, number, slot);
     let outcome = tested.outcome;
-    let names = tested.names;
     if outcome.number != 0 {
-        return Judged { outcome, names, at };
+        return Judged { tested, at };
     }
     slot::move_packets(parents, slot, held);
-    Judged {
-        outcome,
-        names,
-        at: next,
-    }
+    Judged { tested, at: next }
 }
 
 // The slots of a plan in order, up to the first that is refused.
@@ -85,35 +77,22 @@ fn slots_judged(
     requires ready { ⌜ Ready p (byNode (now parents)) (now held) ⌝ }
     ensures answer { λ r. ⌜ judging r (now (held .exit))
         ≡ slotsJudged p (byNode (now (parents .entry))) (entry (now (table .entry))) (now (plan .entry)) many (judgingFrom 2 (now (held .entry))) ⌝ }
-    ensures names { λ r. ⌜ r .names ≡ namesAt p (entry (now (table .entry))) (now (plan .entry)) (judging r (now (held .exit))) (r .outcome .number) ⌝ }
+    ensures names { λ r. ⌜ Named p (entry (now (table .entry))) (now (plan .entry)) r (now (held .exit)) ⌝ }
 {
-    let mut outcome = meaning::ACCEPTED;
+    let mut tested = meaning::PASSED;
     let mut at: usize = 2;
     let mut k: u16 = 0;
     while k < many {
         let one = slot_judged(p, parents, table, plan, Slot(k + 1), at, held);
-        outcome = one.outcome;
+        tested = one.tested;
         at = one.at;
+        let outcome = tested.outcome;
         if outcome.number != 0 {
             return one;
         }
         k += 1;
     }
-    Judged {
-        outcome,
-        names: meaning::NOBODY,
-        at,
-    }
-}
-
-// A refusal that names nobody.
-fn unnamed(number: u8, place: u16) -> Tested
-    ensures { λ r. ⌜ r ≡ record { outcome = record { number = number; place = place }; names = nobody } ⌝ }
-{
-    Tested {
-        outcome: Outcome { number, place },
-        names: meaning::NOBODY,
-    }
+    Judged { tested, at }
 }
 
 // The slots of a plan, then 16, then 17.
@@ -132,10 +111,10 @@ fn plan_judged_by(
     let many = slot::slot_count(plan);
     let mut held = slot::wide(packets);
     let end = slots_judged(p, parents, table, plan, many, &mut held);
-    let outcome = end.outcome;
-    let names = end.names;
+    let tested = end.tested;
+    let outcome = tested.outcome;
     if outcome.number != 0 {
-        return Tested { outcome, names };
+        return tested;
     }
     if end.at < plan.len() {
         return unnamed(16, many);
@@ -147,9 +126,11 @@ fn plan_judged_by(
 }
 
 // What the judge answers where it refuses.
-fn refused(outcome: Outcome, names: Names) -> Judgement
-    ensures { λ r. ⌜ r ≡ record { verdict = refusedVerdict outcome; names = names } ⌝ }
+fn refused(tested: Tested) -> Judgement
+    ensures { λ r. ⌜ r ≡ record { verdict = refusedVerdict (tested .outcome); names = tested .names } ⌝ }
 {
+    let outcome = tested.outcome;
+    let names = tested.names;
     let verdict = Verdict { outcome, slots: 0 };
     Judgement { verdict, names }
 }
@@ -163,10 +144,13 @@ pub fn judgement(sheet: &[u8], plan: &[u8]) -> Judgement
     let tree = sheet::read(sheet);
     let read = tree.outcome;
     if read.number != 0 {
-        return refused(read, meaning::NOBODY);
+        return refused(Tested {
+            outcome: read,
+            names: meaning::NOBODY,
+        });
     }
     if plan.len() < 2 {
-        return refused(refusal(11, 0), meaning::NOBODY);
+        return refused(unnamed(11, 0));
     }
     let p = tree.probes;
     let parents = tree.parents;
@@ -174,10 +158,10 @@ pub fn judgement(sheet: &[u8], plan: &[u8]) -> Judgement
     let table = sheet::conflicts(sheet, p, parents);
     let tested = plan_judged_by(p, &parents, &table, packets, plan);
     let outcome = tested.outcome;
-    let names = tested.names;
     if outcome.number != 0 {
-        return refused(outcome, names);
+        return refused(tested);
     }
+    let names = tested.names;
     let verdict = Verdict {
         outcome,
         slots: slot::slot_count(plan),

@@ -64,12 +64,16 @@ nobody = record { first = 0; second = 0 }
 abbrev pub oneName : (slot : List Node) → (i : ℕ) → Names
 oneName slot i = record { first = getD slot i 0; second = 0 }
 
--- "Whom a refusal names": the lowest two that conflict, the smaller first; senders rise by then, so that the first two in the slot are the lowest
+-- "Whom a refusal names": the first sender with which one behind it conflicts, and the first of those; senders rise by then, so that these two are the lowest
+abbrev pub lowerAt : Relation → (slot : List Node) → ℕ
+lowerAt relation slot = least (length slot) (λ i. some (length slot) (conflictBehind relation slot i))
+
+abbrev pub higherAt : Relation → (slot : List Node) → ℕ
+higherAt relation slot = let i = lowerAt relation slot in least (length slot) (conflictBehind relation slot i)
+
+-- "Whom a refusal names": the lowest two that conflict, the smaller first
 unfoldable pub twoNames : Relation → (slot : List Node) → Names
-twoNames relation slot =
-    let i = least (length slot) (λ i. some (length slot) (conflictBehind relation slot i)) in
-    let j = least (length slot) (conflictBehind relation slot i) in
-    record { first = getD slot i 0; second = getD slot j 0 }
+twoNames relation slot = record { first = getD slot (lowerAt relation slot) 0; second = getD slot (higherAt relation slot) 0 }
 
 -- "Whom a refusal names": for 12 to 14 the first offender in slot order, for 13 the later of two; for 15 the lowest two; elsewhere nobody
 unfoldable pub slotNames : (p : ℕ) → Relation → (held : List ℕ) → (slot : List Node) → (number : ℕ) → Names

@@ -99,7 +99,7 @@ module _ (s buffer : List ℕ) (tree : Tree) (is : tree ≡ prepared s (length b
     room : roomFor (hops s) ≤ length buffer
     room = ltb-false (length buffer) (roomFor (hops s)) (given-accepted 9 0 (ltb (length buffer) (roomFor (hops s))) refl (then-accepted (sheetTest s) _ passed .1))
 
-    pub two : 2 ≤ length buffer
+    two : 2 ≤ length buffer
     two = omega (arith, room)
 
     parent : (λ (u : ℕ). getD (tree .parents) u 0) ≡ parentOf s
@@ -108,7 +108,7 @@ module _ (s buffer : List ℕ) (tree : Tree) (is : tree ≡ prepared s (length b
     a-probe : (k : ℕ) → k < probeCount s → isProbe (probeCount s) (k + 2) ≡ true
     a-probe k h = probe-yes (probeCount s) (k + 2) (omega arith) (omega arith)
 
-    pub ready : Ready (tree .probes) (λ u. getD (tree .parents) u 0) (tree .packets) (length buffer - 2)
+    ready : Ready (tree .probes) (λ u. getD (tree .parents) u 0) (tree .packets) (length buffer - 2)
     unfolding levelOf
     ready =
         subst₃ (λ (p : ℕ) (up : ℕ → ℕ) (held : List ℕ). Ready p up held (length buffer - 2)) (sym (standing .probes)) (sym parent) (sym (standing .packets))
@@ -120,11 +120,17 @@ module _ (s buffer : List ℕ) (tree : Tree) (is : tree ≡ prepared s (length b
           fits = omega (arith, first-left s sheet-passed, room);
         })
 
-    pub few : weigh (levelBy (tree .probes) (λ u. getD (tree .parents) u 0)) (tree .packets) ≤ 65535
+    few : weigh (levelBy (tree .probes) (λ u. getD (tree .parents) u 0)) (tree .packets) ≤ 65535
     unfolding levelOf
     few =
         subst₃ (λ (p : ℕ) (up : ℕ → ℕ) (held : List ℕ). weigh (levelBy p up) held ≤ 65535) (sym (standing .probes)) (sym parent) (sym (standing .packets))
         (omega (arith, first-left s sheet-passed, hops-most s sheet-passed))
+
+    -- all that the filling of the buffer counts on
+    pub to-fill : (2 ≤ length buffer)
+        × (Ready (tree .probes) (λ u. getD (tree .parents) u 0) (tree .packets) (length buffer - 2)
+        × (weigh (levelBy (tree .probes) (λ u. getD (tree .parents) u 0)) (tree .packets) ≤ 65535))
+    to-fill = (two, (ready, few))
 
     -- the code's plan, over what the sheet says
     over-sheet : (table : List (List Bool)) (own : List ℕ) (m : ℕ)

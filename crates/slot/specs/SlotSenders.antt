@@ -4,11 +4,11 @@ use mathlib.Core.List.{List}
 use Prim.Native.Nat.{ℕ, _<_}
 use lib.ListN.{length, getD}
 use Rattle.meaning.specs.declared.Tested.{Tested}
-use Rattle.meaning.specs.Words.{Node, Relation, some, least, places}
+use Rattle.meaning.specs.Words.{Node, Relation, places}
 use Rattle.meaning.specs.Yard.{isProbe}
 use Rattle.meaning.specs.Rounds.{holds}
 use Rattle.meaning.specs.Answer.{accepted}
-use Rattle.meaning.specs.Judge.{conflictBehind, nobody}
+use Rattle.meaning.specs.Judge.{nobody, lowerAt, higherAt}
 use Rattle.slot.specs.declared.Two.{Two}
 
 -- each sender is a node
@@ -17,9 +17,7 @@ Nodes slot = (i : ℕ) → i < length slot → getD slot i 0 < places
 
 -- the places of the two that 15 names; their number, twice, where no two conflict
 unfoldable pub firstTwo : Relation → (slot : List Node) → Two
-firstTwo relation slot =
-    let i = least (length slot) (λ i. some (length slot) (conflictBehind relation slot i)) in
-    record { first = i; second = least (length slot) (conflictBehind relation slot i) }
+firstTwo relation slot = record { first = lowerAt relation slot; second = higherAt relation slot }
 
 -- a number at its place, and whom it names
 abbrev pub blaming : (number place first second : ℕ) → Tested

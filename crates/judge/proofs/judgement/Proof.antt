@@ -5,7 +5,7 @@ use mathlib.Core.List.{List}
 use Prim.Native.Nat.{ℕ}
 use borrow.Author.Needs.{needs}
 use borrow.Author.Tests.{ne-eqb}
-use Rattle.meaning.specs.declared.Outcome.{Outcome}
+use Rattle.meaning.specs.declared.Tested.{Tested}
 use Rattle.meaning.specs.declared.Judgement.{Judgement}
 use Rattle.meaning.specs.Answer.{isAccepted, sheetTest}
 use Rattle.meaning.specs.Judge.{planJudged, planNames}
@@ -40,8 +40,8 @@ sheet c = c .before .before .before .before .before .before .args .sheet .now
 passed : (c : tie.Else1) → isAccepted (sheetTest (sheet c)) ≡ true
 passed c = sheet-accepted (sheet c) (c .before .before .before .read .result) (c .before .before .before .read .ensures) (c .if1 .left)
 
-refusal-requires : tie.Need-refusal-requires
-refusal-requires c κs = search needs
+unnamed-requires : tie.Need-unnamed-requires
+unnamed-requires c κs = search needs
 
 refused-requires-2 : tie.Need-refused-requires-2
 refused-requires-2 c κs = search needs
@@ -49,10 +49,10 @@ refused-requires-2 c κs = search needs
 returns-2 : tie.Need-returns-2
 returns-2 c =
     let ok = passed (c .before .before .before) in
-    let is = c .before .refusal .ensures in
-    exactly-refused _ _ _
-    (c .refused2 .ensures ∙ names-count _ _ ok _ (count-decides _ _ ok _ _ is (c .before .before .if2 .taken) refl) (ap (λ (o : Outcome). o .number) is))
-    (ap passes (c .refused2 .ensures) ∙ ap isAccepted is)
+    let is = c .before .unnamed .ensures in
+    let eleven = ap (λ (t : Tested). t .outcome) is in
+    exactly-refused _ _ _ (c .refused2 .ensures ∙ names-count _ _ ok _ (count-decides _ _ ok _ _ eleven (c .before .before .if2 .taken) refl) is)
+    (ap passes (c .refused2 .ensures) ∙ ap isAccepted eleven)
 
 -- behind the count
 conflicts-requires : tie.Need-conflicts-requires
@@ -88,7 +88,7 @@ refused-requires-3 c κs = search needs
 
 returns-3 : tie.Need-returns-3
 returns-3 c =
-    let tested = c .before .before .before .before .before in
+    let tested = c .before .before .before .before in
     let ok = passed (counted tested .before) in
     let some = c .before .if3 .taken in
     let is = plan-decides _ _ ok (counted tested .if2 .left) _ (plan-answer tested) _ some refl in
@@ -101,7 +101,7 @@ returns-4 : tie.Need-returns-4
 returns-4 c =
     let tested = c .before .before .before .before .before in
     let ok = passed (counted tested .before) in
-    let is = plan-passes _ _ ok (counted tested .if2 .left) _ (plan-answer tested) _ (c .slot-count .ensures .0) (c .before .if3 .left) in
+    let is = plan-passes _ _ ok (counted tested .if2 .left) _ (plan-answer tested) _ (c .slot-count .ensures .0) (c .before .before .if3 .left) in
     exactly _ _ _ (names-plan _ _ ok _ _ is (plan-names tested)) (λ _. c .slot-count .ensures .1)
 
 pub judgement-spec : {M : Type 1} → statement M
@@ -111,7 +111,7 @@ judgement-spec =
     read-requires
     refused-requires
     returns
-    refusal-requires
+    unnamed-requires
     refused-requires-2
     returns-2
     conflicts-requires

@@ -1,11 +1,10 @@
 -- `judge::slot_judged` meets its contract: the part lent from the middle of the plan is the slot, and a slot that passed has senders that may send.
-use mathlib.Core.Path.{sym, ap}
+use mathlib.Core.Path.{ap}
 use mathlib.Core.Logic.{inl}
 use native.Mathlib.Omega.{arith}
-use Rattle.meaning.specs.declared.Outcome.{Outcome}
-use Rattle.laws.proofs.Naming.{names-else}
+use Rattle.meaning.specs.declared.Tested.{Tested}
 use Rattle.slot.proofs.Places.{part-read}
-use Rattle.judge.proofs.SlotTurn.{turn-short, turn-refused, turn-passed, outcome-tested, names-tested, names-passed}
+use Rattle.judge.proofs.SlotTurn.{turn-short, turn-refused, turn-passed, outcome-tested, names-tested, names-passed, names-unnamed}
 use borrow.Author.Needs.{needs}
 use Rattle.judge.proofs.slot_judged.Statement.{statement}
 use Rattle.judge.proofs.slot_judged.Tie as tie
@@ -13,14 +12,15 @@ use Rattle.judge.proofs.slot_judged.Tie as tie
 slot-at-requires : tie.Need-slot-at-requires
 slot-at-requires c κs = search needs
 
-refusal-requires : tie.Need-refusal-requires
-refusal-requires c κs = search needs
+unnamed-requires : tie.Need-unnamed-requires
+unnamed-requires c κs = search needs
 
 returns : tie.Need-returns
 returns c =
-    let read = c .before .before in (
-      turn-short _ _ _ (read .slot-at .ensures) (read .before .before .pre .0) _ _ _ _ _ _ (c .refusal .ensures) (c .before .if1 .taken),
-      sym (names-else _ _ _ _ _ (inl (omega (arith, ap (λ (o : Outcome). o .number) (c .refusal .ensures))))),
+    let read = c .before .before in
+    let is = c .unnamed .ensures in (
+      turn-short _ _ _ (read .slot-at .ensures) (read .before .before .pre .0) _ _ _ _ _ _ (ap (λ (t : Tested). t .outcome) is) (c .before .if1 .taken),
+      names-unnamed _ _ _ _ _ _ _ is (inl (omega arith)),
     )
 
 sub-slot : tie.Need-sub-slot
@@ -37,7 +37,7 @@ slot-tested-requires c κs = search needs
 
 returns-2 : tie.Need-returns-2
 returns-2 c =
-    let tested = c .before .before .before .before in
+    let tested = c .before .before .before in
     let read = tested .before .before .before .before in
     let start = read .before .before in
     let is = tested .slot-tested .ensures in (
@@ -51,7 +51,7 @@ move-packets-requires c κs = search needs
 
 returns-3 : tie.Need-returns-3
 returns-3 c =
-    let tested = c .before .before .before .before .before .before in
+    let tested = c .before .before .before .before .before in
     let read = tested .before .before .before .before in
     let start = read .before .before in
     let is = tested .slot-tested .ensures in (
@@ -66,7 +66,7 @@ slot-judged-spec =
     tie.close
     (tie.spec
     slot-at-requires
-    refusal-requires
+    unnamed-requires
     returns
     sub-slot
     part-slot-start

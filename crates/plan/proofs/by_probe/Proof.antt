@@ -2,7 +2,7 @@
 use mathlib.Core.Path.{_∙_}
 use borrow.Author.Needs.{needs}
 use Rattle.meaning.specs.Rounds.{byProbe}
-use Rattle.plan.proofs.Answered.{refuses, two, ready, few, by-probe, finishes}
+use Rattle.plan.proofs.Answered.{refuses, to-fill, by-probe, finishes}
 use Rattle.plan.proofs.by_probe.Statement.{statement}
 use Rattle.plan.proofs.by_probe.Tie as tie
 
@@ -32,12 +32,8 @@ finish-requires : tie.Need-finish-requires
 finish-requires c κs =
     let passed = c .before .before .before .before .before in
     let start = passed .before .before .before .before .before .before in
-    let s = start .args .sheet .now in
-    let buffer = start .args .buf .now in
-    let tree = passed .before .before .before .prepare in (
-      two s buffer (tree .result) (tree .ensures) (passed .if1 .left),
-      (ready s buffer (tree .result) (tree .ensures) (passed .if1 .left), few s buffer (tree .result) (tree .ensures) (passed .if1 .left)),
-    )
+    let tree = passed .before .before .before .prepare in
+    to-fill (start .args .sheet .now) (start .args .buf .now) (tree .result) (tree .ensures) (passed .if1 .left)
 
 same-length : tie.Need-same-length
 same-length c = search needs
