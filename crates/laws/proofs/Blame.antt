@@ -35,7 +35,7 @@ of-either P a b first second = go (isAccepted a)
     go false = first
 
 -- where the slot begins that stands behind so many slots from a place on
-begins : (plan : Bytes) → (at : ℕ) → (many : ℕ) → ℕ
+pub begins : (plan : Bytes) → (at : ℕ) → (many : ℕ) → ℕ
 begins plan at zero = at
 begins plan at (suc k) = begins plan (nextAt plan at) k
 
@@ -44,12 +44,12 @@ unfolding begins
 begins-next plan at zero = refl
 begins-next plan at (suc k) = begins-next plan (nextAt plan at) k
 
-slots-next : (plan : Bytes) (at k : ℕ) → slotsFrom plan at (suc k) ≡ slotsFrom plan at k ++ (sendersAt plan (begins plan at k) ∷ [])
+pub slots-next : (plan : Bytes) (at k : ℕ) → slotsFrom plan at (suc k) ≡ slotsFrom plan at k ++ (sendersAt plan (begins plan at k) ∷ [])
 unfolding begins slotsFrom
 slots-next plan at zero = refl
 slots-next plan at (suc k) = ap (λ (slots : Slots). sendersAt plan at ∷ slots) (slots-next plan (nextAt plan at) k)
 
-length-slots : (plan : Bytes) (at k : ℕ) → length (slotsFrom plan at k) ≡ k
+pub length-slots : (plan : Bytes) (at k : ℕ) → length (slotsFrom plan at k) ≡ k
 unfolding slotsFrom
 length-slots plan at zero = refl
 length-slots plan at (suc k) = ap suc (length-slots plan (nextAt plan at) k)
@@ -70,7 +70,7 @@ refused-stays answer moves stays same h = go (isAccepted answer) refl h
 
 module _ (p : ℕ) (parent : Node → Node) (relation : Relation) (packets : List ℕ) (plan : Bytes) where
   -- the judge after n turns
-  abbrev judged : ℕ → Judging
+  abbrev pub judged : ℕ → Judging
   judged n = slotsJudged p parent relation plan n (record { outcome = accepted; at = 2; held = packets })
 
   -- what a slot's turn answers
@@ -89,11 +89,11 @@ module _ (p : ℕ) (parent : Node → Node) (relation : Relation) (packets : Lis
   onward k fine = cond fine (slotJudged p parent relation plan (k + 1) (judged k)) (judged k)
 
   -- the judge has passed k slots: it stands where the next begins, and holds what is held behind them
-  record Stands (k : ℕ) (now : Judging) : Type 0 where
-    there : now .at ≡ begins plan 2 k
-    holding : now .held ≡ heldAfter parent packets (slotsFrom plan 2 k)
+  pub record Stands (k : ℕ) (now : Judging) : Type 0 where
+    pub there : now .at ≡ begins plan 2 k
+    pub holding : now .held ≡ heldAfter parent packets (slotsFrom plan 2 k)
 
-  stands : (k : ℕ) → isAccepted (judged k .outcome) ≡ true → Stands k (judged k)
+  pub stands : (k : ℕ) → isAccepted (judged k .outcome) ≡ true → Stands k (judged k)
   unfolding begins slotsJudged forEach heldAfter slotsFrom
   stands zero h = record { there = refl; holding = refl }
   stands (suc k) h = go (isAccepted (judged k .outcome)) refl h (stands k)

@@ -64,7 +64,7 @@ module _ (s : List ℕ) (ok : isAccepted (sheetTest s) ≡ true) (held : List �
   tested = slotTest (probeCount s) (entry (conflictTable s)) held place slot
 
   -- a slot that passes is legal
-  passed-legal : isAccepted tested ≡ true → Legal s held slot
+  pub passed-legal : isAccepted tested ≡ true → Legal s held slot
   passed-legal h =
       let is = told (probeCount s) (entry (conflictTable s)) held place slot h in
       record {

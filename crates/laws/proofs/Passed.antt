@@ -33,7 +33,7 @@ unfoldable pub Apart : (ℕ → ℕ → Bool) → List ℕ → Type 0
 Apart relation [] = Unit {0}
 Apart relation (v ∷ slot) = Each (λ u. relation v u ≡ false) slot × Apart relation slot
 
-apart-read : (relation : ℕ → ℕ → Bool) (l : List ℕ)
+pub apart-read : (relation : ℕ → ℕ → Bool) (l : List ℕ)
     → ((i j : ℕ) → i < j → j < length l → relation (getD l i 0) (getD l j 0) ≡ false) → Apart relation l
 unfolding Apart
 apart-read relation [] h = tt

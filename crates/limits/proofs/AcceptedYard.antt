@@ -1,17 +1,16 @@
 -- What an accepted sheet's yard gives to the limits: walks that end at the gateway, and conflicts that can be coloured.
-use mathlib.Core.Path.{_≡_, _∙_}
+use mathlib.Core.Path.{_≡_, sym}
 use mathlib.Core.Bool.{true}
 use mathlib.Core.List.{List}
 use Prim.Native.Nat.{ℕ, _+_, _≤_}
 use native.Mathlib.Omega.{arith}
 use Rattle.meaning.specs.Yard.{isProbe}
 use Rattle.meaning.specs.Sheet.{probeCount, parentOf, pairRecords, pairCount, interfere}
-use Rattle.meaning.specs.Conflict.{entry, conflictTable}
 use Rattle.meaning.specs.Answer.{isAccepted, sheetTest}
+use Rattle.meaning.specs.Legal.{clash}
 use Rattle.laws.proofs.Walk.{probe-below}
-use Rattle.laws.proofs.Conflicting.{siblings-conflict, interfere-sym}
+use Rattle.laws.proofs.Conflicting.{siblings-conflict, parent-conflicts, conflict-sym, interfere-sym}
 use Rattle.laws.proofs.Accepted.{AcceptedYard, accepted-yard, parent-outside}
-use Rattle.laws.proofs.Exact.{table-clash}
 use Rattle.limits.proofs.Branch.{Rooted}
 
 module _ (s : List ℕ) (ok : isAccepted (sheetTest s) ≡ true) where
@@ -35,7 +34,17 @@ module _ (s : List ℕ) (ok : isAccepted (sheetTest s) ≡ true) where
 
   -- two probes with one parent conflict
   pub siblings : (x y : ℕ) → isProbe (probeCount s) x ≡ true → isProbe (probeCount s) y ≡ true → (x ≡ y → ⊥) → parentOf s x ≡ parentOf s y
-      → entry (conflictTable s) x y ≡ true
+      → clash s x y ≡ true
   siblings x y hx hy other one =
-      table-clash s ok x y
-      ∙ siblings-conflict (probeCount s) (parentOf s) (interfere (pairRecords s) (pairCount s)) (interfere-sym (pairRecords s) (pairCount s)) x y hx hy other one
+      siblings-conflict (probeCount s) (parentOf s) (interfere (pairRecords s) (pairCount s)) (interfere-sym (pairRecords s) (pairCount s)) x y hx hy other one
+
+  -- and so do a probe and its parent, either way round
+  pub child-and-parent : (c : ℕ) → isProbe (probeCount s) c ≡ true → isProbe (probeCount s) (parentOf s c) ≡ true
+      → (clash s c (parentOf s c) ≡ true) × (clash s (parentOf s c) c ≡ true)
+  child-and-parent c hc hp =
+      let up : clash s c (parentOf s c) ≡ true =
+      parent-conflicts (probeCount s) (parentOf s) (interfere (pairRecords s) (pairCount s)) (interfere-sym (pairRecords s) (pairCount s)) c hc hp
+      (λ e. yard .probe c hc .parent-other (sym e)) in (
+        up,
+        conflict-sym (probeCount s) (parentOf s) (interfere (pairRecords s) (pairCount s)) (interfere-sym (pairRecords s) (pairCount s)) c (parentOf s c) up,
+      )

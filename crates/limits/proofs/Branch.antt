@@ -3,7 +3,7 @@
 use mathlib.Core.Path.{_≡_, refl, sym, ap, ap₂, _∙_, subst}
 use mathlib.Core.Bool.{Bool, true, false, cond, _||_}
 use mathlib.Core.Logic.{_≢_, ⊎-elim}
-use Prim.Native.Nat.{ℕ, zero, suc, _+_, _≤_}
+use Prim.Native.Nat.{ℕ, zero, suc, _+_, _≤_, _<_}
 use native.Mathlib.Nat.{not-suc-le-zero}
 use native.Mathlib.Omega.{arith}
 use lib.Dec.{eqb}
@@ -11,10 +11,11 @@ use borrow.Author.Tests.{eq-eqb, ne-eqb, eqb-true}
 use Rattle.meaning.specs.Words.{sum, sumProbes}
 use Rattle.meaning.specs.Yard.{isProbe, reaches, climb, branchPackets}
 use Rattle.laws.proofs.Turns.{sum-same, same-or-other}
-use Rattle.laws.proofs.Walk.{not-both, probe-yes, probe-least, reaches-here, reaches-on, reaches-none, climb-up}
+use Rattle.laws.proofs.Walk.{not-both, probe-yes, probe-least, reaches-here, reaches-on, reaches-none, climb-up, climb-most}
 use Rattle.laws.proofs.Slots.{true-or-false}
 use Rattle.limits.specs.Sent.{inflow}
-use Rattle.limits.proofs.Sums.{zero-either, sum-zero, sum-add, sum-swap, sum-cond, probes-only}
+use Rattle.limits.proofs.Sums.{zero-either, sum-zero, sum-add, sum-swap, sum-cond, probes-only, together-itself}
+use Rattle.limits.proofs.Sending.{inflow-same}
 
 -- a yard: every probe has a parent among the nodes and arrives at the gateway, from which no walk goes on
 pub record Rooted (p : ℕ) (parent : ℕ → ℕ) : Type 0 where
@@ -201,10 +202,25 @@ module _ (p : ℕ) (parent : ℕ → ℕ) (rooted : Rooted p parent) where
       → branchPackets p parent packets top ≡ packets top + inflow p parent (branchPackets p parent packets) top
   branch-own packets top h =
       let least = probe-least p top h in
-      let own : sumProbes p (λ v. cond (eqb v top) (packets v) 0) ≡ packets top =
-      probes-only p (λ v. cond (eqb v top) (packets v) 0) top h (λ u other. ap (λ (b : Bool). cond b (packets u) 0) (ne-eqb u top other))
-      ∙ ap (λ (b : Bool). cond b (packets top) 0) (eq-eqb top top refl) in
-      omega (arith, own, branch-parts packets top (omega arith))
+      omega (arith, together-itself p packets top h, branch-parts packets top (omega arith))
+
+  -- what is everywhere one's own and what the children have is the packets of the branches: by levels, from the deepest up
+  module _ (packets many : ℕ → ℕ) (parts : (v : ℕ) → isProbe p v ≡ true → many v ≡ packets v + inflow p parent many v) where
+    from-deepest : (n v : ℕ) → isProbe p v ≡ true → p < level v + n → many v ≡ branchPackets p parent packets v
+    from-deepest zero v h deep = absurd (omega (arith, climb-most parent p v))
+    from-deepest (suc n) v h deep =
+        omega (
+          arith,
+          parts v h,
+          branch-own packets v h,
+          inflow-same p parent many (branchPackets p parent packets) v
+              (λ k hk e.
+              let probe = probe-yes p (k + 2) (omega arith) (omega arith) in
+              from-deepest n (k + 2) probe (omega (arith, level-up (k + 2) probe, ap level (eqb-true (parent (k + 2)) v e)))),
+        )
+
+    pub only-branch : (v : ℕ) → isProbe p v ≡ true → many v ≡ branchPackets p parent packets v
+    only-branch v h = from-deepest (suc p) v h (omega arith)
 
   -- all packets, by the branches whose tops are next to the gateway
   pub branch-all : (packets : ℕ → ℕ) → sumProbes p packets ≡ inflow p parent (branchPackets p parent packets) 1

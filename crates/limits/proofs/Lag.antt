@@ -35,7 +35,7 @@ pub most-over : (p : ℕ) (f : ℕ → ℕ) (bound : ℕ) → ((v : ℕ) → isP
 most-over p f bound each = most-within p (λ k. f (k + 2)) bound (λ k h. each (k + 2) (probe-yes p (k + 2) (omega arith) (omega arith)))
 
 -- and each is at most the most
-over-most : (p : ℕ) (f : ℕ → ℕ) (v : ℕ) → isProbe p v ≡ true → f v ≤ mostProbes p f
+pub over-most : (p : ℕ) (f : ℕ → ℕ) (v : ℕ) → isProbe p v ≡ true → f v ≤ mostProbes p f
 over-most p f v h =
     let at = probe-at p v h in
     omega (arith, most-holds p (λ k. f (k + 2)) (v - 2) (at .0), ap f (at .1))

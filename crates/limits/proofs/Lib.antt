@@ -1,13 +1,20 @@
--- Limits of every plan, for every accepted sheet. Read Fewest, MostByProbe and MostByLevel for what is promised; the others carry them.
+-- Limits of every plan, for every accepted sheet. Read Fewest, MostByProbe, MostByLevel, ColoursFew and RoundBeatsSlot for what is promised; the others
+-- carry them.
 pub mod Sums
 pub mod Served
+pub mod Sending
 pub mod Branch
 pub mod Lag
 pub mod AcceptedYard
+pub mod RunningSlots
+pub mod PlanRuns
+pub mod SentByBranch
+pub mod Exclusive
 pub mod Fewest
-pub mod Sending
 pub mod Serving
 pub mod MostByProbe
+pub mod ColoursFew
+pub mod RoundBeatsSlot
 pub mod LevelLine
 pub mod OneLevel
 pub mod MostByLevel
@@ -16,3 +23,6 @@ pub mod Deciding
 pub mod DecidingPlan
 pub mod Attained
 pub mod Tops
+pub mod BranchesHops
+pub mod SlotsOfSome
+pub mod BookLength

@@ -205,7 +205,7 @@ module _ (s : List ℕ) (ok : isAccepted (sheetTest s) ≡ true) where
         omega (
           arith,
           inflow-same (probeCount s) (λ u. levelOf s u + 1) (sent (turn s ok by c now .slots)) (λ u. sent (now .slots) u + sent slots u) at
-              (λ k _. turn-sent s ok by c now (k + 2)),
+              (λ k _ _. turn-sent s ok by c now (k + 2)),
           inflow-add (probeCount s) (λ u. levelOf s u + 1) (sent (now .slots)) (sent slots) at,
           inflow-part (probeCount s) (λ u. levelOf s u + 1) (sent slots) at (x - 2) (place .0) stands,
           ap (sent slots) (place .1),
@@ -221,7 +221,7 @@ module _ (s : List ℕ) (ok : isAccepted (sheetTest s) ≡ true) where
           sym (inflow-add (probeCount s) (λ u. levelOf s u + 1) (λ v. getD (now .held) v 0) (sent (now .slots)) at)
               ∙ inflow-same (probeCount s) (λ u. levelOf s u + 1) (λ v. getD (now .held) v 0 + sent (now .slots) v)
               (λ v. packetsOf s v + inflow (probeCount s) (parentOf s) (sent (now .slots)) v) at
-              (λ k hk. kept .balance (k + 2) (omega (arith, Yard.few s ok)))
+              (λ k hk _. kept .balance (k + 2) (omega (arith, Yard.few s ok)))
               ∙ inflow-add (probeCount s) (λ u. levelOf s u + 1) (packetsOf s) (inflow (probeCount s) (parentOf s) (sent (now .slots))) at,
           along-next (sent (now .slots)) at h,
         )

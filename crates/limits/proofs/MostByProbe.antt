@@ -10,7 +10,7 @@ use native.Mathlib.Omega.{arith}
 use lib.Dec.{eqb}
 use lib.ListN.{length, getD, List·getD-eq-default}
 use borrow.Author.Tests.{eq-eqb, ltb-false, lt-ltb}
-use Rattle.meaning.specs.Words.{tab, sumProbes, places}
+use Rattle.meaning.specs.Words.{tab, places}
 use Rattle.meaning.specs.Yard.{isProbe, branchPackets, branchLag}
 use Rattle.meaning.specs.Sheet.{probeCount, parentOf, packetsOf, hops, heaviest, longest, slowest}
 use Rattle.meaning.specs.Conflict.{entry, conflictTable}
@@ -30,7 +30,7 @@ use Rattle.limits.proofs.Serving.{Owning, Kept, turn, after, more-sent,
 use Rattle.limits.proofs.AcceptedYard as Yard
 
 -- only holders own a slot
-only-owners : (colour : ℕ → ℕ) (c : ℕ) (may : ℕ → Bool) → Only may (ownersByProbe colour c may)
+pub only-owners : (colour : ℕ → ℕ) (c : ℕ) (may : ℕ → Bool) → Only may (ownersByProbe colour c may)
 unfolding ownersByProbe
 only-owners colour c may v e = go (decLt v places)
   where
@@ -48,7 +48,7 @@ owns colour c may v h e m =
 
 module _ (s : List ℕ) (ok : isAccepted (sheetTest s) ≡ true) where
   -- the way by probe, by its owners
-  abbrev by : Owning
+  abbrev pub by : Owning
   by =
       record {
         owners = ownersByProbe (λ v. getD (probeColours s) v 0);
@@ -87,7 +87,8 @@ module _ (s : List ℕ) (ok : isAccepted (sheetTest s) ≡ true) where
               (owns (λ u. getD (probeColours s) u 0) c (holds (now .held)) v node its may),
         )
 
-    serves-probe : (r : ℕ) → min (sent (after s ok by r .slots) v + 1) (packetsOf s v + inflow (probeCount s) (parentOf s) (sent (after s ok by r .slots)) v) ≤ sent (after s ok by (suc r) .slots) v
+    -- it sends in every round while it holds a packet
+    pub serves-probe : (r : ℕ) → min (sent (after s ok by r .slots) v + 1) (packetsOf s v + inflow (probeCount s) (parentOf s) (sent (after s ok by r .slots)) v) ≤ sent (after s ok by (suc r) .slots) v
     serves-probe r =
         serves s ok by (packetsOf s v) (λ now. getD (now .held) v 0) (λ now. sent (now .slots) v)
         (λ now. inflow (probeCount s) (parentOf s) (sent (now .slots)) v)
@@ -116,19 +117,23 @@ module _ (s : List ℕ) (ok : isAccepted (sheetTest s) ≡ true) where
       (slowest s) v h in
       omega (arith, in-slowest p (parentOf s) (packetsOf s) (Yard.rooted s ok) v h, enough)
 
-  all-home : sumProbes (probeCount s) (packetsOf s) ≤ inflow (probeCount s) (parentOf s) (sent (after s ok by (slowest s) .slots)) 1
-  all-home =
-      omega (
+  -- if after r rounds each probe has sent all of its branch's, all are home, and r rounds were enough
+  pub rounds-enough : (r : ℕ)
+      → ((v : ℕ) → isProbe (probeCount s) v ≡ true → branchPackets (probeCount s) (parentOf s) (packetsOf s) v ≤ sent (after s ok by r .slots) v)
+      → length (slotsOf s (byProbe s)) ≤ coloursUsed (probeColours s) * r
+  unfolding slotsOf byProbe
+  rounds-enough r all =
+      slots-most s ok by r (hops s)
+      (omega (
         arith,
         branch-all (probeCount s) (parentOf s) (Yard.rooted s ok) (packetsOf s),
-        inflow-least (probeCount s) (parentOf s) (branchPackets (probeCount s) (parentOf s) (packetsOf s)) (sent (after s ok by (slowest s) .slots)) 1
-            (λ k hk _. all-sent (k + 2) (probe-yes (probeCount s) (k + 2) (omega arith) (omega arith))),
-      )
+        inflow-least (probeCount s) (parentOf s) (branchPackets (probeCount s) (parentOf s) (packetsOf s)) (sent (after s ok by r .slots)) 1
+            (λ k hk _. all (k + 2) (probe-yes (probeCount s) (k + 2) (omega arith) (omega arith))),
+      ))
 
   -- demand 3, by probe
   pub by-probe-most : length (slotsOf s (byProbe s)) ≤ coloursUsed (probeColours s) * slowest s
-  unfolding slotsOf byProbe
-  by-probe-most = slots-most s ok by (slowest s) (hops s) all-home
+  by-probe-most = rounds-enough (slowest s) all-sent
 
   -- by the levels below each top
   pub by-probe-levels : length (slotsOf s (byProbe s)) ≤ coloursUsed (probeColours s) * longest s

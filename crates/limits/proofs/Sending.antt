@@ -1,7 +1,7 @@
 -- Conservation: what a node holds after a slot, and what it sent in it, is what it held before and what its children sent. By weighing the packets
 -- of that node alone.
 use mathlib.Core.Path.{_≡_, refl, sym, ap, ap₂, _∙_}
-use mathlib.Core.Bool.{Bool, true, false, cond}
+use mathlib.Core.Bool.{Bool, true, cond}
 use mathlib.Core.List.{List, [], _∷_, _++_}
 use mathlib.Core.Logic.{_⊎_, inl, inr, _≢_, ⊎-elim}
 use Prim.Native.Nat.{ℕ, zero, suc, _+_, _*_, _≤_, _<_}
@@ -17,37 +17,20 @@ use Rattle.laws.proofs.Turns.{below-or-last, sum-same, same-or-other}
 use Rattle.laws.proofs.Walk.{probe-yes}
 use Rattle.laws.proofs.Moving.{Rising, Each, Sender, weigh, weighAll, weigh-moved}
 use Rattle.limits.specs.Sent.{inflow, sentIn, sent}
-use Rattle.limits.proofs.Sums.{zero-either, sum-add, sum-only, sum-zero, sum-swap, probes-only}
+use Rattle.limits.proofs.Sums.{sum-add, sum-only, sum-zero, sum-swap, probes-only, together, together-add, together-none, together-same, together-one}
 
 pub inflow-add : (p : ℕ) (parent x y : ℕ → ℕ) (v : ℕ) → inflow p parent (λ c. x c + y c) v ≡ inflow p parent x v + inflow p parent y v
 unfolding inflow
-inflow-add p parent x y v =
-    sum-same p (λ k. cond (eqb (parent (k + 2)) v) (x (k + 2) + y (k + 2)) 0)
-    (λ k. cond (eqb (parent (k + 2)) v) (x (k + 2)) 0 + cond (eqb (parent (k + 2)) v) (y (k + 2)) 0)
-    (λ k _. go (eqb (parent (k + 2)) v) (x (k + 2)) (y (k + 2)))
-    ∙ sum-add p (λ k. cond (eqb (parent (k + 2)) v) (x (k + 2)) 0) (λ k. cond (eqb (parent (k + 2)) v) (y (k + 2)) 0)
-  where
-    go : (b : Bool) (m n : ℕ) → cond b (m + n) 0 ≡ cond b m 0 + cond b n 0
-    go true m n = refl
-    go false m n = refl
+inflow-add p parent x y v = together-add p (λ c. eqb (parent c) v) x y
 
-pub inflow-same : (p : ℕ) (parent x y : ℕ → ℕ) (v : ℕ) → ((k : ℕ) → k < p → x (k + 2) ≡ y (k + 2)) → inflow p parent x v ≡ inflow p parent y v
+pub inflow-same : (p : ℕ) (parent x y : ℕ → ℕ) (v : ℕ) → ((k : ℕ) → k < p → eqb (parent (k + 2)) v ≡ true → x (k + 2) ≡ y (k + 2))
+    → inflow p parent x v ≡ inflow p parent y v
 unfolding inflow
-inflow-same p parent x y v e =
-    sum-same p (λ k. cond (eqb (parent (k + 2)) v) (x (k + 2)) 0) (λ k. cond (eqb (parent (k + 2)) v) (y (k + 2)) 0)
-    (λ k h. ap (λ (n : ℕ). cond (eqb (parent (k + 2)) v) n 0) (e k h))
-
--- one probe's packet goes to its parent
-inflow-one : (p : ℕ) (parent : ℕ → ℕ) (u v : ℕ) → isProbe p u ≡ true → inflow p parent (λ c. cond (eqb u c) 1 0) v ≡ cond (eqb (parent u) v) 1 0
-unfolding inflow
-inflow-one p parent u v h =
-    probes-only p (λ c. cond (eqb (parent c) v) (cond (eqb u c) 1 0) 0) u h
-    (λ c other. ap (λ (b : Bool). cond (eqb (parent c) v) (cond b 1 0) 0) (ne-eqb u c (λ e. other (sym e))) ∙ zero-either (eqb (parent c) v))
-    ∙ ap (λ (b : Bool). cond (eqb (parent u) v) (cond b 1 0) 0) (eq-eqb u u refl)
+inflow-same p parent x y v = together-same p (λ c. eqb (parent c) v) x y
 
 pub inflow-none : (p : ℕ) (parent : ℕ → ℕ) (v : ℕ) → inflow p parent (λ _. 0) v ≡ 0
 unfolding inflow
-inflow-none p parent v = sum-zero p (λ k. cond (eqb (parent (k + 2)) v) 0 0) (λ k _. zero-either (eqb (parent (k + 2)) v))
+inflow-none p parent v = together-none p (λ c. eqb (parent c) v)
 
 -- what comes to the probes and to the gateway is all that is sent
 pub inflow-all : (p : ℕ) (parent x : ℕ → ℕ) → ((v : ℕ) → isProbe p v ≡ true → (1 ≤ parent v) × (parent v ≤ p + 1))
@@ -92,19 +75,20 @@ unfolding weighAll sentIn
 sent-weighs [] v = refl
 sent-weighs (u ∷ slot) v = ap (λ (n : ℕ). cond (eqb u v) 1 0 + n) (sent-weighs slot v)
 
--- what comes to v in a slot is what its children sent in it
-comes : (p : ℕ) (parent : ℕ → ℕ) (slot : List ℕ) (v : ℕ) → Each (λ u. isProbe p u ≡ true) slot
-    → weighAll (λ k. cond (eqb (parent k) v) 1 0) slot ≡ inflow p parent (sentIn slot) v
+-- the senders of a slot that pass a test, counted: what the probes that pass it send in the slot
+pub passing-sent : (p : ℕ) (test : ℕ → Bool) (slot : List ℕ) → Each (λ u. isProbe p u ≡ true) slot
+    → weighAll (λ u. cond (test u) 1 0) slot ≡ together p test (sentIn slot)
 unfolding weighAll sentIn Each
-comes p parent [] v probes = sym (inflow-none p parent v)
-comes p parent (u ∷ slot) v probes =
-    ap₂ _+_ (sym (inflow-one p parent u v (probes .0))) (comes p parent slot v (probes .1))
-    ∙ sym (inflow-add p parent (λ c. cond (eqb u c) 1 0) (sentIn slot) v)
+passing-sent p test [] probes = sym (together-none p test)
+passing-sent p test (u ∷ slot) probes =
+    ap₂ _+_ (sym (together-one p test u (probes .0))) (passing-sent p test slot (probes .1))
+    ∙ sym (together-add p test (λ v. cond (eqb u v) 1 0) (sentIn slot))
 
 -- conservation, of one slot
 pub slot-balance : (p : ℕ) (parent : ℕ → ℕ) (lo : ℕ) (slot held : List ℕ) (v : ℕ) → v < places → length held ≡ places → Rising lo slot
     → Each (Sender parent held) slot → Each (λ u. isProbe p u ≡ true) slot
     → getD (moved parent slot held) v 0 + sentIn slot v ≡ getD held v 0 + inflow p parent (sentIn slot) v
+unfolding inflow
 slot-balance p parent lo slot held v h long rising sending probes =
     omega (
       arith,
@@ -112,7 +96,7 @@ slot-balance p parent lo slot held v h long rising sending probes =
       weigh-one (moved parent slot held) v h,
       weigh-one held v h,
       sent-weighs slot v,
-      comes p parent slot v probes,
+      passing-sent p (λ k. eqb (parent k) v) slot probes,
     )
 
 -- slots one behind another

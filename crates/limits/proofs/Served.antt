@@ -1,6 +1,6 @@
 -- Rounds that serve every holder bring the packets home in time. By rounds: a probe that is behind has a child that has sent enough, or children that
 -- have sent all, and so holds a packet. The lag is what relays cost; it is 0 where every probe has a packet of its own.
-use mathlib.Core.Path.{_≡_, refl, sym, ap, subst}
+use mathlib.Core.Path.{_≡_, sym, ap, subst}
 use mathlib.Core.Bool.{Bool, true, false, cond, _&&_}
 use mathlib.Core.Logic.{_⊎_, inl, inr, ⊎-elim}
 use Prim.Native.Nat.{ℕ, zero, suc, _+_, _-_, _≤_, _<_, min}
@@ -9,21 +9,16 @@ use lib.Dec.{eqb, ltb}
 use borrow.Author.Tests.{eqb-true, ltb-true, ltb-false}
 use Rattle.meaning.specs.Words.{some}
 use Rattle.meaning.specs.Yard.{isProbe}
-use Rattle.laws.proofs.Turns.{in-sum, some-where, some-none, sum-least}
+use Rattle.laws.proofs.Turns.{in-sum, some-where, some-none}
 use Rattle.laws.proofs.Walk.{probe-yes}
 use Rattle.laws.proofs.Slots.{and-left, and-right, true-or-false}
 use Rattle.limits.specs.Sent.{inflow}
+use Rattle.limits.proofs.Sums.{together-least}
 
 -- more from each child is more from all
 pub inflow-least : (p : ℕ) (parent x y : ℕ → ℕ) (v : ℕ) → ((k : ℕ) → k < p → eqb (parent (k + 2)) v ≡ true → x (k + 2) ≤ y (k + 2)) → inflow p parent x v ≤ inflow p parent y v
 unfolding inflow
-inflow-least p parent x y v le =
-    sum-least p (λ k. cond (eqb (parent (k + 2)) v) (x (k + 2)) 0) (λ k. cond (eqb (parent (k + 2)) v) (y (k + 2)) 0)
-    (λ k h. go k h (eqb (parent (k + 2)) v) refl)
-  where
-    go : (k : ℕ) → k < p → (b : Bool) → eqb (parent (k + 2)) v ≡ b → cond b (x (k + 2)) 0 ≤ cond b (y (k + 2)) 0
-    go k h true e = le k h e
-    go k h false e = omega arith
+inflow-least p parent x y v = together-least p (λ c. eqb (parent c) v) x y
 
 -- no child has more than all
 pub inflow-part : (p : ℕ) (parent x : ℕ → ℕ) (v k : ℕ) → k < p → eqb (parent (k + 2)) v ≡ true → x (k + 2) ≤ inflow p parent x v
@@ -75,3 +70,16 @@ module _ (p : ℕ) (parent own all lag : ℕ → ℕ) (done : ℕ → ℕ → �
       let enough : all v ≤ own v + inflow p parent (done r) v = omega (arith, whole v h, came) in
       one-more (all v) r (lag v) (done r v) (done (suc r) v) (own v + inflow p parent (done r) v) (serves r v h) (served r v h) (inr enough))
       (true-or-false (some p (behind r v)))
+
+-- `other r` is what each has sent after r steps, in each of which it sends at most one packet, and only one that it holds
+module _ (p : ℕ) (parent own : ℕ → ℕ) (done other : ℕ → ℕ → ℕ)
+    (serves : (r v : ℕ) → isProbe p v ≡ true → min (done r v + 1) (own v + inflow p parent (done r) v) ≤ done (suc r) v)
+    (none-yet : (v : ℕ) → other 0 v ≡ 0)
+    (steps : (r v : ℕ) → isProbe p v ≡ true → (other (suc r) v ≤ other r v + 1) × (other (suc r) v ≤ own v + inflow p parent (other r) v)) where
+  -- as many rounds that serve every holder send no less
+  pub never-ahead : (r v : ℕ) → isProbe p v ≡ true → other r v ≤ done r v
+  never-ahead zero v h = omega (arith, none-yet v)
+  never-ahead (suc r) v h =
+      let step = steps r v h in
+      let came = inflow-least p parent (other r) (done r) v (λ k hk _. never-ahead r (k + 2) (probe-yes p (k + 2) (omega arith) (omega arith))) in
+      omega (arith, step .0, step .1, came, never-ahead r v h, serves r v h)

@@ -112,7 +112,7 @@ module _ (s : List ℕ) (ok : isAccepted (sheetTest s) ≡ true) (by : Owning) w
               let more : (u : ℕ) → sent (now .slots ++ (slot ∷ [])) u ≡ sent (now .slots) u + sentIn slot u =
               λ u. omega (arith, sent-append (now .slots) (slot ∷ []) u, sent-one slot u) in
               let flows : flow (sent (now .slots ++ (slot ∷ []))) v ≡ flow (sent (now .slots)) v + flow (sentIn slot) v =
-              inflow-same (probeCount s) (parentOf s) (sent (now .slots ++ (slot ∷ []))) (λ c. sent (now .slots) c + sentIn slot c) v (λ k _. more (k + 2))
+              inflow-same (probeCount s) (parentOf s) (sent (now .slots ++ (slot ∷ []))) (λ c. sent (now .slots) c + sentIn slot c) v (λ k _ _. more (k + 2))
               ∙ inflow-add (probeCount s) (parentOf s) (sent (now .slots)) (sentIn slot) v in
               omega (arith, moves, flows, more v, kept .balance v h);
         }
