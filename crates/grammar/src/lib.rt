@@ -2,6 +2,7 @@
 ghost use mathlib.Core.Path.{_≡_};
 ghost use Prim.Native.Nat.{_+_};
 ghost use lib.ListN.{length, drop};
+ghost use Rattle.meaning.specs.Words.{least};
 ghost use Rattle.graph.specs.Part.{space, marks, part};
 ghost use Rattle.graph.specs.Lines.{same, isNumber, numberAt, isComment, isProblem, isEdge, lineOf};
 use graph::Line;
@@ -102,6 +103,20 @@ fn says(line: &[u8], k: usize, bytes: &[u8]) -> bool
     ensures { λ r. ⌜ r ≡ same (part space k (now (line .entry))) (now (bytes .entry)) ⌝ }
 {
     same(word(line, k), bytes)
+}
+
+// Which of so many words of a line is just these bytes; as many where none is.
+pub fn place_of(line: &[u8], many: usize, bytes: &[u8]) -> usize
+    ensures { λ r. ⌜ r ≡ least many (λ k. same (part space k (now (line .entry))) (now (bytes .entry))) ⌝ }
+{
+    let mut k = 0;
+    while k < many {
+        if says(line, k, bytes) {
+            return k;
+        }
+        k += 1;
+    }
+    k
 }
 
 // Whether word k of a line is a number.

@@ -1,6 +1,5 @@
--- A text line by line: what is left of it answers the whole. A line that is ended is read and left behind, and the last is what stands behind the last newline.
+-- A piece line by line: what is left of it answers the whole. A line that is ended is read and left behind, and the last is what stands behind the last newline.
 use mathlib.Core.Path.{_≡_, refl, sym, ap, ap₂, _∙_}
-use mathlib.Core.Bool.{and-false}
 use mathlib.Core.List.{[]}
 use Prim.Native.Nat.{ℕ, zero, suc, _+_, _-_, _≤_, _<_}
 use native.Mathlib.Omega.{arith}
@@ -14,6 +13,7 @@ use Rattle.graph.specs.Part.{newline, marks, part}
 use Rattle.graph.specs.Table.{Table, noEdges}
 use Rattle.graph.specs.Reading.{SoFar, unread, lineRead, linesRead, lastRead, GraphRead, ended, graphRead}
 use Rattle.graph.proofs.Cut.{part-whole, marks-none, part-within, take-part, marks-behind, parts-behind}
+use Rattle.parse.specs.Piece.{behindLast, lastBegins, linesAfter}
 
 -- the first of the turns, apart
 forEach-first : {A : Type 0} (n : ℕ) (step : ℕ → A → A) (start : A) → forEach (suc n) step start ≡ forEach n (λ k. step (suc k)) (step 0 start)
@@ -25,58 +25,34 @@ forEach-first (suc n) step start = ap (step (suc n)) (forEach-first n step start
 abbrev linesOf : Bytes → ℕ → SoFar → SoFar
 linesOf rest k now = lineRead now (part newline k rest)
 
--- what is answered at the end, by what was read and what stands behind the last newline
-abbrev endOf : SoFar → Bytes → GraphRead
-endOf now behind = ended (record { state = lastRead (now .state) behind; table = now .table })
+-- a line is ended
+module _ (rest : Bytes) (n : ℕ) (long : n ≡ length (part newline 0 rest)) (more : n < length rest) where
+  abbrev later : Bytes
+  later = drop (n + 1) rest
 
--- what is answered, by what was read and what is left
-unfoldable pub restRead : SoFar → (rest : Bytes) → GraphRead
-restRead now rest = endOf (forEach (marks newline rest) (linesOf rest) now) (part newline (marks newline rest) rest)
+  many : marks newline rest ≡ suc (marks newline later)
+  many = marks-behind newline rest n long more
 
-pub whole : (text : Bytes) → restRead (record { state = unread; table = noEdges }) text ≡ graphRead text
-unfolding restRead linesRead graphRead
-whole text = refl
+  behind-one : behindLast rest ≡ behindLast later
+  behind-one = ap (λ (m : ℕ). part newline m rest) many ∙ parts-behind newline rest n long more (marks newline later)
 
-module _ (now : SoFar) (rest : Bytes) where
-  -- a line is ended
-  read-one : (n : ℕ) → n ≡ length (part newline 0 rest) → n < length rest
-      → restRead now rest ≡ restRead (lineRead now (take n rest)) (drop (n + 1) rest)
-  unfolding restRead
-  read-one n long more =
-      ap₂ (λ (m : ℕ) (u : Bytes). endOf (forEach m (linesOf rest) now) u) many
-      (ap (λ (m : ℕ). part newline m rest) many ∙ parts-behind newline rest n long more (marks newline later))
-      ∙ ap (λ (s : SoFar). endOf s (part newline (marks newline later) later))
-      (forEach-first (marks newline later) (linesOf rest) now
+  read-one : (now : SoFar) → linesAfter now rest ≡ linesAfter (lineRead now (take n rest)) later
+  unfolding linesAfter
+  read-one now =
+      ap (λ (m : ℕ). forEach m (linesOf rest) now) many
+      ∙ forEach-first (marks newline later) (linesOf rest) now
       ∙ ap (λ (u : Bytes). forEach (marks newline later) (λ k. linesOf rest (suc k)) (lineRead now u)) (sym (take-part newline rest n long))
       ∙ forEach-same (marks newline later) (λ k. linesOf rest (suc k)) (linesOf later) (lineRead now (take n rest))
-      (λ k _ s. ap (lineRead s) (parts-behind newline rest n long more k)))
-    where
-      later : Bytes
-      later = drop (n + 1) rest
+      (λ k _ s. ap (lineRead s) (parts-behind newline rest n long more k))
 
-      many : marks newline rest ≡ suc (marks newline later)
-      many = marks-behind newline rest n long more
+-- no line is ended
+module _ (rest : Bytes) (none : marks newline rest ≡ 0) where
+  behind-whole : behindLast rest ≡ rest
+  behind-whole = ap (λ (m : ℕ). part newline m rest) none ∙ part-whole newline rest none
 
-  -- the last line is not
-  read-last : length (part newline 0 rest) ≡ length rest → restRead now rest ≡ endOf now rest
-  unfolding restRead forEach
-  read-last whole =
-      let none : marks newline rest ≡ 0 = marks-none newline rest whole in
-      ap (λ (m : ℕ). endOf (forEach m (linesOf rest) now) (part newline m rest)) none ∙ ap (endOf now) (part-whole newline rest none)
-
--- nothing is left
-read-none : (now : SoFar) → restRead now [] ≡ ended now
-unfolding restRead forEach marks part lastRead
-read-none now = simp and-false
-
--- as far as a place in the text
-pub record Going (text : Bytes) (table : Table) (read : Reading) (at : ℕ) : Type 0 where
-  pub within : at ≤ length text
-  pub left : restRead (record { state = read; table = table }) (drop at text) ≡ graphRead text
-
-pub going-starts : (text : Bytes) (table : Table) (read : Reading) → read ≡ unread → table ≡ noEdges → Going text table read 0
-going-starts text table read s t =
-    record { within = omega arith; left = ap₂ (λ (r : Reading) (u : Table). restRead (record { state = r; table = u }) text) s t ∙ whole text }
+  read-none : (now : SoFar) → linesAfter now rest ≡ now
+  unfolding linesAfter forEach
+  read-none now = ap (λ (m : ℕ). forEach m (linesOf rest) now) none
 
 -- what is lent from a place on
 pub lent : (text : Bytes) (at : ℕ) → take (length text - at) (drop at text) ≡ drop at text
@@ -86,54 +62,83 @@ lent text at = take-all (length text - at) (drop at text) (omega (arith, length-
 pub line-long : (rest : Bytes) (n : ℕ) → n ≡ length (part newline 0 rest) → n ≡ length (take n rest)
 line-long rest n is = sym (length-take-le n rest (omega (arith, part-within newline rest)))
 
--- what the end of a text answers, by its state and its table
-abbrev Answered : (text : Bytes) (answer : Graph) (table : Table) → Type 0
-Answered text answer table = (answer ≡ graphRead text .answer) × (table ≡ graphRead text .table)
+-- as far as a place in the piece; all is what the piece answers
+pub record Going (piece : Bytes) (all : SoFar) (table : Table) (read : Reading) (at : ℕ) : Type 0 where
+  pub within : at ≤ length piece
+  pub left : linesAfter (record { state = read; table = table }) (drop at piece) ≡ all
+  pub behind : behindLast (drop at piece) ≡ behindLast piece
 
-answered : (text : Bytes) (x : GraphRead) (answer : Graph) (table : Table) → x ≡ graphRead text → answer ≡ x .answer → table ≡ x .table
-    → Answered text answer table
-answered text x answer table e a t = (a ∙ ap (λ (y : GraphRead). y .answer) e, t ∙ ap (λ (y : GraphRead). y .table) e)
+pub going-starts : (piece : Bytes) (table : Table) (read : Reading) → Going piece (linesAfter (record { state = read; table = table }) piece) table read 0
+going-starts piece table read = record { within = omega arith; left = refl; behind = refl }
 
-module _ (text : Bytes) (table : Table) (read : Reading) (at : ℕ) (so : Going text table read at) where
+-- what is answered at a place behind which no line is ended
+abbrev Answered : (piece : Bytes) (all : SoFar) (table : Table) (read : Reading) (at : ℕ) → Type 0
+Answered piece all table read at = (read ≡ all .state) × ((at ≡ lastBegins piece) × ((drop at piece ≡ behindLast piece) × (table ≡ all .table)))
+
+module _ (piece : Bytes) (all : SoFar) (table : Table) (read : Reading) (at : ℕ) (so : Going piece all table read at) where
   abbrev now : SoFar
   now = record { state = read; table = table }
 
+  answered : marks newline (drop at piece) ≡ 0 → Answered piece all table read at
+  answered none =
+      let same : now ≡ all = sym (read-none (drop at piece) none now) ∙ so .left in
+      let last : drop at piece ≡ behindLast piece = sym (behind-whole (drop at piece) none) ∙ so .behind in (
+        ap (λ (s : SoFar). s .state) same,
+        (omega (arith, so .within, length-drop at piece, ap length last), (last, ap (λ (s : SoFar). s .table) same)),
+      )
+
   -- no byte is left
-  pub going-ends : length text ≤ at → (answer : Graph) (table′ : Table) → answer ≡ ended now .answer → table′ ≡ ended now .table
-      → Answered text answer table′
-  going-ends all answer table′ =
-      answered text (ended now) answer table′ (sym (read-none now) ∙ ap (restRead now) (sym (drop-of-length-le text all)) ∙ so .left)
+  pub going-ends : length piece ≤ at → Answered piece all table read at
+  unfolding marks
+  going-ends done = answered (ap (marks newline) (drop-of-length-le piece done))
 
-  module _ (rest : Bytes) (restIs : rest ≡ drop at text) (n : ℕ) (nIs : n ≡ length (part newline 0 rest)) where
-    -- the next line begins within the text, or at its end
-    pub next-within : (n ≡ length rest → ⊥) → at + n + 1 ≤ length text
-    next-within more = omega (arith, part-within newline rest, ap length restIs ∙ length-drop at text, so .within)
-
+  module _ (rest : Bytes) (restIs : rest ≡ drop at piece) (n : ℕ) (nIs : n ≡ length (part newline 0 rest)) where
     -- the last line is not ended
-    pub going-stops : n ≡ length rest → (read′ : Reading) → read′ ≡ lastRead read rest → (answer : Graph) (table′ : Table)
-        → answer ≡ ended (record { state = read′; table = table }) .answer → table′ ≡ ended (record { state = read′; table = table }) .table
-        → Answered text answer table′
-    going-stops all read′ last answer table′ =
-        answered text (ended (record { state = read′; table = table })) answer table′
-        (ap (λ (r : Reading). ended (record { state = r; table = table })) last
-        ∙ sym (read-last now rest (sym nIs ∙ all)) ∙ ap (restRead now) restIs ∙ so .left)
+    pub going-stops : n ≡ length rest → Answered piece all table read at
+    going-stops whole = answered (ap (marks newline) (sym restIs) ∙ marks-none newline rest (sym nIs ∙ whole))
+
+    -- the next line begins within the piece, or at its end
+    pub next-within : (n ≡ length rest → ⊥) → at + (n + 1) ≤ length piece
+    next-within more = omega (arith, part-within newline rest, ap length restIs ∙ length-drop at piece, so .within)
 
     -- one line more
     pub going-on : (n ≡ length rest → ⊥) → (table′ : Table) (read′ : Reading)
-        → read′ ≡ lineRead now (take n rest) .state → table′ ≡ lineRead now (take n rest) .table → Going text table′ read′ (at + n + 1)
+        → read′ ≡ lineRead now (take n rest) .state → table′ ≡ lineRead now (take n rest) .table → Going piece all table′ read′ (at + (n + 1))
     going-on more table′ read′ s t =
         let short : n < length rest = omega (arith, part-within newline rest) in
         record {
           within = next-within more;
           left =
-              ap₂ (λ (r : Reading) (u : Table). restRead (record { state = r; table = u }) (drop (at + n + 1) text)) s t
-              ∙ ap (restRead (lineRead now (take n rest))) further
-              ∙ sym (read-one now rest n nIs short)
-              ∙ ap (restRead now) restIs
+              ap₂ (λ (r : Reading) (u : Table). linesAfter (record { state = r; table = u }) (drop (at + (n + 1)) piece)) s t
+              ∙ ap (linesAfter (lineRead now (take n rest))) further
+              ∙ sym (read-one rest n nIs short now)
+              ∙ ap (linesAfter now) restIs
               ∙ so .left;
+          behind = ap behindLast further ∙ sym (behind-one rest n nIs short) ∙ ap behindLast restIs ∙ so .behind;
         }
       where
-        further : drop (at + n + 1) text ≡ drop (n + 1) rest
-        further =
-            let sum : at + n + 1 ≡ at + (n + 1) = omega arith in
-            ap (λ (k : ℕ). drop k text) sum ∙ sym (drop-drop (n + 1) at text) ∙ ap (drop (n + 1)) (sym restIs)
+        further : drop (at + (n + 1)) piece ≡ drop (n + 1) rest
+        further = sym (drop-drop (n + 1) at piece) ∙ ap (drop (n + 1)) (sym restIs)
+
+-- a whole text: its lines are read from before the first, then what stands behind them, and then it has ended
+module _ (text : Bytes) (start : Reading) (table : Table) (s : start ≡ unread) (t : table ≡ noEdges) where
+  abbrev lines : SoFar
+  lines = linesAfter (record { state = start; table = table }) text
+
+  begun : lines ≡ linesRead text
+  unfolding linesAfter linesRead
+  begun = ap₂ (λ (r : Reading) (u : Table). linesAfter (record { state = r; table = u }) text) s t
+
+  pub text-ends : (read : Reading) (table′ : Table) (at : ℕ) → Answered text lines table′ read at
+      → (behind : Bytes) → behind ≡ drop at text → (last : Reading) → last ≡ lastRead read behind
+      → (answer : Graph) (table″ : Table)
+      → answer ≡ ended (record { state = last; table = table′ }) .answer → table″ ≡ ended (record { state = last; table = table′ }) .table
+      → (answer ≡ graphRead text .answer) × (table″ ≡ graphRead text .table)
+  unfolding graphRead
+  text-ends read table′ at is behind behindIs last lastIs answer table″ a u =
+      let end : ended (record { state = last; table = table′ }) ≡ graphRead text =
+      ap₂ (λ (r : Reading) (v : Table). ended (record { state = r; table = v }))
+      (lastIs ∙ ap₂ lastRead (is .0 ∙ ap (λ (x : SoFar). x .state) begun) (behindIs ∙ is .1 .1 .0))
+      (is .1 .1 .1 ∙ ap (λ (x : SoFar). x .table) begun)
+      in
+      (a ∙ ap (λ (x : GraphRead). x .answer) end, u ∙ ap (λ (x : GraphRead). x .table) end)

@@ -1,2 +1,3 @@
--- What the private functions' contracts cite.
+-- What the contracts cite besides the meaning of a text.
 pub mod Vertices
+pub mod Piece

@@ -2,12 +2,14 @@
 ghost use mathlib.Core.Path.{_≡_};
 ghost use mathlib.Core.Logic.{_⊎_};
 ghost use Prim.Native.Nat.{_≤_};
+ghost use lib.ListN.{drop};
 ghost use Rattle.meaning.specs.Words.{places};
 ghost use Rattle.meaning.specs.Conflict.{entry};
 ghost use Rattle.conflict.specs.Marks.{marked};
 ghost use Rattle.graph.specs.Table.{noEdges, isJoined, withEdge};
 ghost use Rattle.graph.specs.Reading.{unread, nextLine, mayStand, isAstray, lineTest, taken, faulty, tableAfter, lineRead, lastRead, endTest, ended, graphRead};
 ghost use Rattle.parse.specs.Vertices.{verticesSaid};
+ghost use Rattle.parse.specs.Piece.{behindLast, lastBegins, linesAfter};
 use graph::Graph;
 use graph::Line;
 use graph::Reading;
@@ -17,6 +19,12 @@ const NEWLINE: u8 = 10;
 
 // The last line number that is told.
 const LAST_LINE: u64 = 18446744073709551615;
+
+// What was read of a text, and where its last line begins, which is not ended yet.
+pub struct Stepped {
+    pub read: Reading,
+    pub at: usize,
+}
 
 // Clears a table, whatever it held.
 fn clear(table: &mut [[bool; 65]; 65])
@@ -248,21 +256,34 @@ pub fn ended(read: Reading, table: &mut [[bool; 65]; 65]) -> Graph
     }
 }
 
+// The lines of a piece that are ended, one after the other.
+pub fn lines_after(read: Reading, piece: &[u8], table: &mut [[bool; 65]; 65]) -> Stepped
+    ensures state { λ r. ⌜ r .read ≡ linesAfter (record { state = read; table = now (table .entry) }) (now (piece .entry)) .state ⌝ }
+    ensures place { λ r. ⌜ r .at ≡ lastBegins (now (piece .entry)) ⌝ }
+    ensures behind { λ r. ⌜ drop (r .at) (now (piece .entry)) ≡ behindLast (now (piece .entry)) ⌝ }
+    ensures table { λ _. ⌜ now (table .exit) ≡ linesAfter (record { state = read; table = now (table .entry) }) (now (piece .entry)) .table ⌝ }
+{
+    let mut so_far = read;
+    let mut at = 0;
+    while at < piece.len() {
+        let rest = &piece[at..];
+        let n = grammar::part_length(NEWLINE, rest);
+        if n == rest.len() {
+            return Stepped { read: so_far, at };
+        }
+        so_far = line_read(so_far, &rest[..n], table);
+        at += n + 1;
+    }
+    Stepped { read: so_far, at }
+}
+
 // A text read into a table.
 pub fn graph_read(text: &[u8], table: &mut [[bool; 65]; 65]) -> Graph
     ensures answer { λ r. ⌜ r ≡ graphRead (now (text .entry)) .answer ⌝ }
     ensures table { λ _. ⌜ now (table .exit) ≡ graphRead (now (text .entry)) .table ⌝ }
 {
-    let mut read = unread(table);
-    let mut at: usize = 0;
-    while at < text.len() {
-        let rest = &text[at..];
-        let n = grammar::part_length(NEWLINE, rest);
-        if n == rest.len() {
-            return ended(last_read(read, rest), table);
-        }
-        read = line_read(read, &rest[..n], table);
-        at = at + n + 1;
-    }
-    ended(read, table)
+    let start = unread(table);
+    let stepped = lines_after(start, text, table);
+    let at = stepped.at;
+    ended(last_read(stepped.read, &text[at..]), table)
 }

@@ -1,14 +1,13 @@
--- How long an answer can be: part by part, and no words of a number have more than 80 bytes.
-use mathlib.Core.Path.{_≡_, refl, ap, _∙_, subst}
+-- How long an answer can be: part by part, and what a number says has with its senders no more than 80 bytes.
+use mathlib.Core.Path.{_≡_, refl}
 use mathlib.Core.Bool.{Bool, true, false, cond, _&&_}
-use mathlib.Core.List.{List, [], _∷_, _++_}
-use Prim.Native.Nat.{ℕ, zero, suc, _+_, _-_, _≤_, _<_, min, max}
+use mathlib.Core.List.{List, [], _++_}
+use Prim.Native.Nat.{ℕ, _+_, _≤_, min}
 use Prim.Native.String.{String}
 use native.Mathlib.Omega.{arith}
 use borrow.Author.Tests.{leb-true, ltb-true}
 use lib.Dec.{eqb, leb, ltb}
-use lib.ListN.{length, getD, take, drop, length-append}
-use lib.Seq.{getD-take, getD-drop}
+use lib.ListN.{length, length-append}
 use Rattle.meaning.specs.declared.Outcome.{Outcome}
 use Rattle.meaning.specs.declared.Planned.{Planned}
 use Rattle.meaning.specs.declared.Names.{Names}
@@ -19,7 +18,9 @@ use Rattle.meaning.specs.Answer.{isAccepted}
 use Rattle.meaning.specs.Lister.{text, decimal, said}
 use Rattle.lines.proofs.Decimal.{digits-most}
 use Rattle.lines.proofs.Lined.{said-length}
-use Rattle.wording.specs.Saying.{unknown, sayings, saying, subject, saidOf, oneOrTwo, anySenders, namedSenders, refusedOf, refusedLine, blamedLine, plannedLine, verdictLine, choiceLine, choiceText, writtenLine, misreadLine}
+use Rattle.sayings.specs.Saying.{saying}
+use Rattle.sayings.proofs.Long.{saying-long, saying-short}
+use Rattle.wording.specs.Saying.{subject, saidOf, oneOrTwo, anySenders, namedSenders, refusedOf, refusedLine, blamedLine, plannedLine, verdictLine, choiceLine, choiceText, writtenLine, misreadLine}
 
 -- so many bytes at most
 pub record Within (bytes : List ℕ) (most : ℕ) : Type 0 where
@@ -43,41 +44,15 @@ either : (test : Bool) {xs ys : List ℕ} {a b : ℕ} → a ≤ b → Within xs 
 either true order h k = record { short = omega (arith, order, h .short) }
 either false order h k = k
 
--- the longest of some words
-longest : List (List ℕ) → ℕ
-longest [] = 0
-longest (words ∷ more) = max (length words) (longest more)
-
-at-most : {k : ℕ} {words : List ℕ} → Within words k → (all : List (List ℕ)) → longest all ≤ k → (n : ℕ) → Within (getD all n words) k
-unfolding longest
-at-most w [] h n = w
-at-most {k} w (first ∷ more) h zero = let most : max (length first) (longest more) ≤ k = h in record { short = omega (arith, most) }
-at-most {k} w (first ∷ more) h (suc n) = let most : max (length first) (longest more) ≤ k = h in at-most w more (omega (arith, most)) n
-
-saying-long : (number : ℕ) → Within (saying number) 80
-unfolding longest text unknown sayings saying
-saying-long = at-most (counted refl) sayings (leb-true (longest sayings) 80 refl)
-
--- what 12 to 15 say is short, and with the senders before it no longer than what the others say
-saying-short : (number : ℕ) → 11 < number → number < 16 → Within (saying number) 43
-unfolding longest text unknown sayings saying
-saying-short number low high =
-    let k = number - 12 in
-    let four = take 4 (drop 12 sayings) in
-    let back : 12 + (number - 12) ≡ number = omega (arith, low) in
-    let inside : number - 12 < 4 = omega (arith, low, high) in
-    subst (λ (words : List ℕ). Within words 43)
-    (getD-take 4 (drop 12 sayings) k unknown inside ∙ getD-drop 12 sayings k unknown ∙ ap (λ (n : ℕ). getD sayings n unknown) back)
-    (at-most (counted refl) four (leb-true (longest four) 43 refl) k)
-
+-- with the senders before it, what 12 to 15 say is no longer than what the others say
 said-long : (number : ℕ) {senders : List ℕ} → Within senders 37 → Within (saidOf number senders) 80
 unfolding subject
 said-long number {senders} h = go (ltb 11 number) (ltb number 16) refl refl
   where
     go : (low high : Bool) → ltb 11 number ≡ low → ltb number 16 ≡ high → Within (cond (low && high) senders [] ++ saying number) 80
-    go true true p q = both h (saying-short number (ltb-true 11 number p) (ltb-true number 16 q))
-    go true false p q = saying-long number
-    go false high p q = saying-long number
+    go true true p q = both h (record { short = saying-short number (ltb-true 11 number p) (ltb-true number 16 q) })
+    go true false p q = record { short = saying-long number }
+    go false high p q = record { short = saying-long number }
 
 any-long : (number : ℕ) → Within (anySenders number) 37
 unfolding text oneOrTwo

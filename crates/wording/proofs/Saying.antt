@@ -1,28 +1,16 @@
--- What each number says, and which line an answer has.
-use mathlib.Core.Path.{_≡_, sym, ap, _∙_}
+-- Whom a number is said of, and which line an answer has.
+use mathlib.Core.Path.{_≡_}
 use mathlib.Core.Bool.{true, false}
 use mathlib.Core.List.{List, _++_}
-use Prim.Native.Nat.{ℕ, min, _<_}
+use Prim.Native.Nat.{ℕ, min}
 use borrow.Author.Tests.{eq-eqb, ne-eqb}
-use lib.ListN.{List·getD-eq-default}
 use Rattle.meaning.specs.declared.Outcome.{Outcome}
 use Rattle.meaning.specs.declared.Planned.{Planned}
 use Rattle.meaning.specs.declared.Judgement.{Judgement}
 use Rattle.meaning.specs.Lister.{text, said}
-use Rattle.lines.specs.Line.{fitting, Put}
-use Rattle.wording.specs.Saying.{unknown, sayings, saying, ofSenders, subject, oneOrTwo, refusedLine, blamedLine, plannedLine, verdictLine, writtenLine}
+use Rattle.wording.specs.Saying.{ofSenders, subject, oneOrTwo, refusedLine, blamedLine, plannedLine, verdictLine, writtenLine}
 use Rattle.wording.specs.Fits.{Fits}
-use Rattle.wording.proofs.Fitting.{put-whole, put-nothing, put-same}
-
--- the words of a number, and those of a number that has none
-pub put-words-of : {l after bytes : List ℕ} {at end number k : ℕ} → number ≡ k → bytes ≡ saying k → Put l at (fitting l at bytes) after end
-    → Fits l at (saying number) after end
-put-words-of e words p = put-same (words ∙ ap saying (sym e)) (put-whole p)
-
-pub put-unknown : {l after bytes : List ℕ} {at end number : ℕ} → 21 < number → bytes ≡ unknown → Put l at (fitting l at bytes) after end
-    → Fits l at (saying number) after end
-unfolding sayings saying
-put-unknown h words p = put-same (words ∙ sym (List·getD-eq-default sayings unknown h)) (put-whole p)
+use Rattle.wording.proofs.Fitting.{put-nothing}
 
 -- whom a number is said of: senders that are put, or nobody
 module _ (number : ℕ) (senders : List ℕ) where

@@ -1,9 +1,8 @@
 -- RULES, "The answers in words": what the front door says of the answers of "Numbers returned", in the words of docs/NUMBERS.md.
 use mathlib.Core.Bool.{Bool, cond, _&&_}
-use mathlib.Core.List.{List, [], _∷_, _++_}
+use mathlib.Core.List.{[], _++_}
 use Prim.Native.Nat.{ℕ, min}
 use lib.Dec.{eqb, ltb}
-use lib.ListN.{getD}
 use Rattle.meaning.specs.declared.Outcome.{Outcome}
 use Rattle.meaning.specs.declared.Planned.{Planned}
 use Rattle.meaning.specs.declared.Names.{Names}
@@ -13,41 +12,7 @@ use Rattle.meaning.specs.declared.Choice.the-variants.{Neither, First, Second}
 use Rattle.meaning.specs.Words.{Bytes}
 use Rattle.meaning.specs.Answer.{isAccepted}
 use Rattle.meaning.specs.Lister.{text, decimal, said, refusal}
-
--- no proved answer has such a number; it is not given another's words
-unfoldable pub unknown : Bytes
-unknown = text "no number of docs/NUMBERS.md"
-
--- docs/NUMBERS.md, "in words": those of 1, 2, .. 21, behind those of 0; those of 12 to 15 go on from the senders that they are said of
-unfoldable pub sayings : List Bytes
-sayings =
-    unknown
-    ∷ text "the sheet ends too early"
-    ∷ text "the sheet counts more than 63 probes, or more pairs than its nodes have"
-    ∷ text "bytes stand behind the sheet"
-    ∷ text "the probe's parent is 0, the probe itself, or no node of the yard"
-    ∷ text "the probe has more than 15 packets"
-    ∷ text "the walk from the probe to its parents never reaches the gateway"
-    ∷ text "the pair does not name two nodes of the yard, the smaller first"
-    ∷ text "the pair is not above the one before it"
-    ∷ text "the plan buffer is shorter than this yard wants"
-    ∷ text "the plan has more than 65,535 slots"
-    ∷ text "the plan ends too early"
-    ∷ text " is no probe of the yard"
-    ∷ text " is not above the one before it"
-    ∷ text " holds no packet"
-    ∷ text " conflict"
-    ∷ text "bytes stand behind the last slot"
-    ∷ text "packets are left outside the gateway"
-    ∷ text "the line may not stand there, or at 0 no p line came"
-    ∷ text "the edge names a vertex out of range, or one vertex twice"
-    ∷ text "the p line counts other edges than there are"
-    ∷ text "the buffer is shorter than the graph's text"
-    ∷ []
-
--- docs/NUMBERS.md: what a refusal's number says, of whomever it is said
-unfoldable pub saying : (number : ℕ) → Bytes
-saying number = getD sayings number unknown
+use Rattle.sayings.specs.Saying.{saying}
 
 -- "Whom a refusal names": 12 to 15 are said of senders of a slot
 abbrev pub ofSenders : (number : ℕ) → Bool

@@ -1,16 +1,11 @@
 // The front door: answers, plans, judges, chooses, lists and draws graphs by file names. The first word of an answer is fixed, so that a script can go by it.
-mod files;
-mod graphs;
-mod words;
-
+use files::ANSWERED;
+use files::FAILED;
+use files::REFUSED;
 use libc::STDERR_FILENO;
 use libc::STDOUT_FILENO;
 use meaning::Choice;
 use meaning::Planned;
-use words::ANSWERED;
-use words::FAILED;
-use words::REFUSED;
-use words::within;
 
 // The arguments; in front of them stands what the starting script knows of an output (`files`).
 const COMMAND: usize = 2;
@@ -38,21 +33,6 @@ enum Command {
     Unknown,
 }
 
-// Whether two words are the same.
-fn same(a: &[u8], b: &[u8]) -> bool {
-    if a.len() != b.len() {
-        return false;
-    }
-    let mut i = 0;
-    while i < a.len() {
-        if a[i] != b[i] {
-            return false;
-        }
-        i += 1;
-    }
-    true
-}
-
 // The milliseconds behind the sheet; 0 where it says no slot's length.
 fn slot_length() -> u16 {
     let mut word = [0u8; 16];
@@ -63,44 +43,46 @@ fn slot_length() -> u16 {
     dealer::milliseconds(&word[..n])
 }
 
-// The command of a word that takes a plan, where as many words stand as it wants.
-fn plan_command_of(word: &[u8], count: usize) -> Command {
-    if count == 5 && same(word, b"probe") {
-        return Command::ByProbe;
+// The command of a word.
+fn command_named(word: &[u8]) -> Command {
+    let names = b"ask list probe level judge choose graph table --help --version";
+    match grammar::place_of(names, 10, word) {
+        0 => Command::Ask,
+        1 => Command::List,
+        2 => Command::ByProbe,
+        3 => Command::ByLevel,
+        4 => Command::Judge,
+        5 => Command::Choose,
+        6 => Command::Graph,
+        7 => Command::Table,
+        8 => Command::Help,
+        9 => Command::Version,
+        _ => Command::Unknown,
     }
-    if count == 5 && same(word, b"level") {
-        return Command::ByLevel;
+}
+
+// Whether as many words stand as a command wants.
+fn is_complete(what: Command, count: usize) -> bool {
+    match what {
+        Command::Ask => count == 4 || count == 5 && slot_length() != 0,
+        Command::List => count == 4,
+        Command::Table => count == 4,
+        Command::Choose => count == 6 || count == 7,
+        Command::Help => count == 3,
+        Command::Version => count == 3,
+        Command::Unknown => false,
+        _ => count == 5,
     }
-    if count == 5 && same(word, b"judge") {
-        return Command::Judge;
-    }
-    if (count == 6 || count == 7) && same(word, b"choose") {
-        return Command::Choose;
-    }
-    if count == 5 && same(word, b"graph") {
-        return Command::Graph;
-    }
-    Command::Unknown
 }
 
 // The command of a word, where as many words stand as it wants.
 fn command_of(word: &[u8], count: usize) -> Command {
-    if same(word, b"ask") && (count == 4 || count == 5 && slot_length() != 0) {
-        return Command::Ask;
+    let what = command_named(word);
+    if is_complete(what, count) {
+        what
+    } else {
+        Command::Unknown
     }
-    if count == 4 && same(word, b"list") {
-        return Command::List;
-    }
-    if count == 4 && same(word, b"table") {
-        return Command::Table;
-    }
-    if count == 3 && same(word, b"--help") {
-        return Command::Help;
-    }
-    if count == 3 && same(word, b"--version") {
-        return Command::Version;
-    }
-    plan_command_of(word, count)
 }
 
 // Says how long a reading of the sheet takes, in minutes too where it is said how long a slot is.
@@ -109,7 +91,7 @@ fn ask(sheet: &[u8]) -> u8 {
     let outcome = told.outcome;
     let mut text = [0u8; wording::ANY_ANSWER];
     let n = dealer::asked(&mut text, told, slot_length());
-    words::say_answer(STDOUT_FILENO, &text[..n], outcome)
+    files::say_answer(STDOUT_FILENO, &text[..n], outcome)
 }
 
 // Lists the sheet; a refusal is said with its meaning.
@@ -119,53 +101,58 @@ fn list(sheet: &[u8]) -> u8 {
     if outcome.number != 0 {
         let mut line = [0u8; wording::ANY_ANSWER];
         let n = wording::refused(&mut line, outcome);
-        return words::say_answer(STDOUT_FILENO, &line[..n], outcome);
+        return files::say_answer(STDOUT_FILENO, &line[..n], outcome);
     }
-    let mut text = [0u8; meaning::ANY_TEXT];
+    let mut text = files::text_room();
     let n = listing::list(sheet, &mut text);
-    words::say_answer(STDOUT_FILENO, &text[..n], outcome)
+    files::say_answer(STDOUT_FILENO, &text[..n], outcome)
 }
 
 // Writes the plan that was made to its file, and says what it has; a refusal leaves the file alone.
 fn write_plan(to: i32, planned: Planned, plan: &[u8]) -> u8 {
     let outcome = planned.outcome;
     if outcome.number == 0 {
-        let n = within(planned.bytes, plan);
-        if !files::write_file(to, PLAN, &plan[..n]) {
+        let n = files::within(planned.bytes, plan);
+        if files::write_file(to, PLAN, &plan[..n]) != ANSWERED {
             return FAILED;
         }
     }
     let mut line = [0u8; wording::ANY_ANSWER];
     let m = wording::planned(&mut line, planned);
-    words::say_answer(to, &line[..m], outcome)
+    files::say_answer(to, &line[..m], outcome)
 }
 
 fn plan_by_probe(to: i32, sheet: &[u8]) -> u8 {
-    let mut plan = [0u8; meaning::ANY_PLAN];
+    let mut plan = files::plan_room();
     let planned = plan::by_probe(sheet, &mut plan);
     write_plan(to, planned, &plan)
 }
 
 fn plan_by_level(to: i32, sheet: &[u8]) -> u8 {
-    let mut plan = [0u8; meaning::ANY_PLAN];
+    let mut plan = files::plan_room();
     let planned = plan::by_level(sheet, &mut plan);
     write_plan(to, planned, &plan)
 }
 
+// Says what the judge says of a plan.
+fn say_verdict(sheet: &[u8], plan: &[u8]) -> u8 {
+    let judgement = judge::judgement(sheet, plan);
+    let verdict = judgement.verdict;
+    let outcome = verdict.outcome;
+    let mut line = [0u8; wording::ANY_ANSWER];
+    let m = wording::verdict(&mut line, judgement);
+    files::say_answer(STDOUT_FILENO, &line[..m], outcome)
+}
+
 // Judges the plan in a file; its first 96,032 bytes decide every verdict.
 fn judge(sheet: &[u8]) -> u8 {
-    let mut plan = [0u8; meaning::DECIDING_PLAN];
+    let mut plan = files::plan_room();
     let got = files::read_file(STDOUT_FILENO, PLAN, &mut plan);
     if got < 0 {
         return FAILED;
     }
     let n = io::count(got, &plan);
-    let judgement = judge::judgement(sheet, &plan[..n]);
-    let verdict = judgement.verdict;
-    let outcome = verdict.outcome;
-    let mut line = [0u8; wording::ANY_ANSWER];
-    let m = wording::verdict(&mut line, judgement);
-    words::say_answer(STDOUT_FILENO, &line[..m], outcome)
+    say_verdict(sheet, &plan[..n])
 }
 
 // Says which of two plans was chosen, and what the judge says of each.
@@ -179,7 +166,7 @@ fn say_choice(to: i32, sheet: &[u8], first: &[u8], second: &[u8], choice: Choice
     };
     let mut text = [0u8; wording::ANY_ANSWER];
     let n = wording::chosen(&mut text, choice, on_first, on_second);
-    words::say(to, &text[..n], status)
+    files::say(to, &text[..n], status)
 }
 
 // Writes the plan that is handed back to a file, where one is named and a plan passes.
@@ -190,7 +177,7 @@ fn keep_choice<'a>(to: i32, sheet: &[u8], first: &'a [u8], second: &'a [u8]) -> 
     }
     if os::arg_count() == 7 {
         let kept = chooser::choose(sheet, first, second);
-        if !files::write_file(to, OUT, kept) {
+        if files::write_file(to, OUT, kept) != ANSWERED {
             return FAILED;
         }
     }
@@ -199,13 +186,13 @@ fn keep_choice<'a>(to: i32, sheet: &[u8], first: &'a [u8], second: &'a [u8]) -> 
 
 // Chooses between the plans in two files.
 fn choose(to: i32, sheet: &[u8]) -> u8 {
-    let mut first = [0u8; meaning::DECIDING_PLAN];
+    let mut first = files::plan_room();
     let got = files::read_file(to, PLAN, &mut first);
     if got < 0 {
         return FAILED;
     }
     let n = io::count(got, &first);
-    let mut second = [0u8; meaning::DECIDING_PLAN];
+    let mut second = files::plan_room();
     let more = files::read_file(to, SECOND, &mut second);
     if more < 0 {
         return FAILED;
@@ -214,13 +201,20 @@ fn choose(to: i32, sheet: &[u8]) -> u8 {
     keep_choice(to, sheet, &first[..n], &second[..m])
 }
 
+// Whether argument i stands for standard input or output.
+fn is_dash_argument(i: usize) -> bool {
+    let mut word = [0u8; 2];
+    let n = os::arg(i, &mut word);
+    files::is_dash(&word[..n])
+}
+
 // Where the words go: to standard error where a plan goes to standard output.
 fn words_to(what: Command) -> i32 {
     let is_plan = match what {
-        Command::ByProbe => files::is_dash_argument(PLAN),
-        Command::ByLevel => files::is_dash_argument(PLAN),
-        Command::Graph => files::is_dash_argument(PLAN),
-        Command::Choose => files::is_dash_argument(OUT),
+        Command::ByProbe => is_dash_argument(PLAN),
+        Command::ByLevel => is_dash_argument(PLAN),
+        Command::Graph => is_dash_argument(PLAN),
+        Command::Choose => is_dash_argument(OUT),
         _ => false,
     };
     if is_plan {
@@ -236,7 +230,7 @@ fn is_dash_twice() -> bool {
     let mut is_once = false;
     let mut i = SHEET;
     while i < count {
-        if files::is_dash_argument(i) {
+        if is_dash_argument(i) {
             if is_once {
                 return true;
             }
@@ -247,7 +241,21 @@ fn is_dash_twice() -> bool {
     false
 }
 
-// What is asked for, of the sheet in its file.
+// What is asked for, of a sheet.
+fn answer_on(what: Command, to: i32, sheet: &[u8]) -> u8 {
+    match what {
+        Command::Ask => ask(sheet),
+        Command::List => list(sheet),
+        Command::ByProbe => plan_by_probe(to, sheet),
+        Command::ByLevel => plan_by_level(to, sheet),
+        Command::Judge => judge(sheet),
+        Command::Choose => choose(to, sheet),
+        Command::Graph => texts::write_graph(to, PLAN, sheet),
+        _ => FAILED,
+    }
+}
+
+// The same of the sheet in its file.
 fn answer(what: Command) -> u8 {
     let to = words_to(what);
     let mut bytes = [0u8; meaning::DECIDING_SHEET];
@@ -256,25 +264,32 @@ fn answer(what: Command) -> u8 {
         return FAILED;
     }
     let n = io::count(got, &bytes);
-    let sheet = &bytes[..n];
-    match what {
-        Command::Ask => ask(sheet),
-        Command::List => list(sheet),
-        Command::ByProbe => plan_by_probe(to, sheet),
-        Command::ByLevel => plan_by_level(to, sheet),
-        Command::Judge => judge(sheet),
-        Command::Choose => choose(to, sheet),
-        Command::Graph => graphs::write_graph(to, PLAN, sheet),
-        _ => FAILED,
-    }
+    answer_on(what, to, &bytes[..n])
 }
 
 // A text is judged by itself, and everything else by a sheet.
 fn answer_or_show(what: Command) -> u8 {
     if let Command::Table = what {
-        return graphs::show_table(SHEET);
+        return texts::show_table(SHEET);
     }
     answer(what)
+}
+
+fn say_usage(to: i32, status: u8) -> u8 {
+    files::say(
+        to,
+        b"usage: yard ask SHEET [MILLISECONDS]      how long a reading takes; of slots of 1 to 60000 ms also in minutes\n\
+            \x20      yard list SHEET                    the plan by probe, as text\n\
+            \x20      yard probe SHEET PLAN              the plan by probe, into the file PLAN\n\
+            \x20      yard level SHEET PLAN              the plan by level, into the file PLAN\n\
+            \x20      yard judge SHEET PLAN              whether the plan passes, or who is to blame\n\
+            \x20      yard choose SHEET PLAN PLAN [OUT]  the shorter of two plans that pass, also into the file OUT\n\
+            \x20      yard graph SHEET TEXT              the conflicts as a graph in the DIMACS format, into the file TEXT\n\
+            \x20      yard table TEXT                    a graph's text as a table\n\
+            \x20      yard --help | --version            these lines, or the version\n\
+            One of the files may be -: standard input or, for a plan or a text that is made, standard output.\n",
+        status,
+    )
 }
 
 // The exit status of what is asked for.
@@ -283,12 +298,12 @@ fn run() -> u8 {
     let n = os::arg(COMMAND, &mut word);
     let what = command_of(&word[..n], os::arg_count());
     match what {
-        Command::Help => words::say_usage(STDOUT_FILENO, ANSWERED),
-        Command::Version => words::say(STDOUT_FILENO, b"yard 2.0\n", ANSWERED),
-        Command::Unknown => words::say_usage(STDERR_FILENO, FAILED),
+        Command::Help => say_usage(STDOUT_FILENO, ANSWERED),
+        Command::Version => files::say(STDOUT_FILENO, b"yard 2.0\n", ANSWERED),
+        Command::Unknown => say_usage(STDERR_FILENO, FAILED),
         _ => {
             if is_dash_twice() {
-                return words::say_usage(STDERR_FILENO, FAILED);
+                return say_usage(STDERR_FILENO, FAILED);
             }
             answer_or_show(what)
         }
@@ -297,5 +312,5 @@ fn run() -> u8 {
 
 fn main() {
     let status = run();
-    words::tell(status);
+    files::tell(status);
 }

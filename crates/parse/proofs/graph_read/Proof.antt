@@ -1,111 +1,47 @@
--- `parse::graph_read` meets its contract: as far as a newline, what is left of the text answers the whole; a part that reaches the end is an unended line.
-use Prim.Native.Nat.{ℕ, _+_, _-_, _≤_}
-use native.Mathlib.Omega.{arith}
-use lib.ListN.{length}
+-- `parse::graph_read` meets its contract: the lines are read from before the first, and what is behind them is the last.
 use borrow.Author.Needs.{needs}
-use Rattle.meaning.specs.Words.{Bytes}
-use Rattle.parse.proofs.Whole.{Going, lent, line-long, next-within, going-starts, going-stops, going-on, going-ends}
+use Rattle.parse.proofs.Whole.{lent, text-ends}
 use Rattle.parse.proofs.graph_read.Statement.{statement}
 use Rattle.parse.proofs.graph_read.Tie as tie
 
-abbrev Inv-loop : tie.InvT-loop
-Inv-loop text table₀ read₀ at₀ table read at = Going text table read at
-
-abbrev μ-loop : tie.MeasureT-loop
-μ-loop text table₀ read₀ at₀ table read at = length text - at
-
-unread-requires : tie.Need-unread-requires Inv-loop μ-loop
+unread-requires : tie.Need-unread-requires
 unread-requires c κs = search needs
 
-loop-holds : tie.Need-loop-holds Inv-loop μ-loop
-loop-holds c = going-starts _ _ _ (c .unread .ensures .0) (c .unread .ensures .1)
+lines-after-requires : tie.Need-lines-after-requires
+lines-after-requires c κs = search needs
 
-sub-rest : tie.Need-sub-rest Inv-loop μ-loop
-sub-rest c = search needs
+sub-last-read : tie.Need-sub-last-read
+sub-last-read c = search needs
 
-part-rest-start : tie.Need-part-rest-start Inv-loop μ-loop
-part-rest-start c = search needs
+part-last-read-start : tie.Need-part-last-read-start
+part-last-read-start c = search needs
 
-part-rest-end : tie.Need-part-rest-end Inv-loop μ-loop
-part-rest-end c = search needs
+part-last-read-end : tie.Need-part-last-read-end
+part-last-read-end c = search needs
 
-part-length-requires : tie.Need-part-length-requires Inv-loop μ-loop
-part-length-requires c κs = search needs
-
-last-read-requires : tie.Need-last-read-requires Inv-loop μ-loop
+last-read-requires : tie.Need-last-read-requires
 last-read-requires c κs = search needs
 
-ended-requires : tie.Need-ended-requires Inv-loop μ-loop
+ended-requires : tie.Need-ended-requires
 ended-requires c κs = search needs
 
--- where the next line's length is known: the text, and the place where the line begins
-abbrev text : tie.After-part-length Inv-loop μ-loop → Bytes
-text c = c .before .before .before .before .before .before .before .args .text .now
-
-abbrev at : tie.After-part-length Inv-loop μ-loop → ℕ
-at c = c .before .before .before .loop .at
-
-returns : tie.Need-returns Inv-loop μ-loop
+returns : tie.Need-returns
 returns c =
-    let line = c .before .before .before .before in
-    going-stops _ _ _ _ (line .before .before .before .loop .inv) _ (lent (text line) (at line)) _ (line .part-length .ensures)
-    (c .before .before .before .if1 .taken) _ (c .before .before .last-read .ensures) _ _ (c .ended .ensures .0) (c .ended .ensures .1)
-
-slice-aggregate-line-read : tie.Need-slice-aggregate-line-read Inv-loop μ-loop
-slice-aggregate-line-read c = line-long _ _ (c .before .before .part-length .ensures)
-
-line-read-requires : tie.Need-line-read-requires Inv-loop μ-loop
-line-read-requires c κs = search needs
-
-within : (c : tie.After-line-read Inv-loop μ-loop)
-    → let line = c .before .before .before .before in at line + line .part-length .result + 1 ≤ length (text line)
-within c =
-    let line = c .before .before .before .before in
-    next-within _ _ _ _ (line .before .before .before .loop .inv) _ (lent (text line) (at line)) _ (line .part-length .ensures)
-    (c .before .before .before .if1 .left)
-
-add-at : tie.Need-add-at Inv-loop μ-loop
-add-at c = let end = within c in record { fits = omega arith }
-
-add-at-2 : tie.Need-add-at-2 Inv-loop μ-loop
-add-at-2 c = let end = within c in record { fits = omega arith }
-
-loop-less : tie.Need-loop-less Inv-loop μ-loop
-loop-less c = search needs
-
-loop-again : tie.Need-loop-again Inv-loop μ-loop
-loop-again c =
-    let line = c .before .before .before .before in
-    going-on _ _ _ _ (line .before .before .before .loop .inv) _ (lent (text line) (at line)) _ (line .part-length .ensures)
-    (c .before .before .before .if1 .left) _ _ (c .line-read .ensures .0) (c .line-read .ensures .1)
-
-ended-requires-2 : tie.Need-ended-requires-2 Inv-loop μ-loop
-ended-requires-2 c κs = search needs
-
-returns-2 : tie.Need-returns-2 Inv-loop μ-loop
-returns-2 c =
-    going-ends _ _ _ _ (c .before .before .before .loop .inv) (c .before .before .loop-test .left) _ _ (c .ended2 .ensures .0) (c .ended2 .ensures .1)
+    let lines = c .before .before .before .before in
+    let begun = lines .before .before in
+    text-ends _ _ _ (begun .unread .ensures .0) (begun .unread .ensures .1) _ _ _ (lines .lines-after .ensures)
+    _ (lent (begun .before .before .before .args .text .now) (lines .lines-after .result .at)) _ (c .before .before .last-read .ensures)
+    _ _ (c .ended .ensures .0) (c .ended .ensures .1)
 
 pub graph-read-spec : {M : Type 1} → statement M
 graph-read-spec =
     tie.close
     (tie.spec
-    Inv-loop
-    μ-loop
     unread-requires
-    loop-holds
-    sub-rest
-    part-rest-start
-    part-rest-end
-    part-length-requires
+    lines-after-requires
+    sub-last-read
+    part-last-read-start
+    part-last-read-end
     last-read-requires
     ended-requires
-    returns
-    slice-aggregate-line-read
-    line-read-requires
-    add-at
-    add-at-2
-    loop-less
-    loop-again
-    ended-requires-2
-    returns-2)
+    returns)

@@ -32,7 +32,7 @@ returns c =
     let senders = words .before .before .before .before in
     let refusal = senders .before .before .before .before in
     put-behind
-    (put-behind (refusal .put-refusal .ensures) (put-behind (senders .put-named-senders .ensures) (words .put-saying .ensures)))
+    (put-behind (refusal .put-refusal .ensures) (put-behind (senders .put-named-senders .ensures) (put-whole (words .put-saying .ensures))))
     (put-whole (newline .put-words .ensures))
 
 pub put-blamed-spec : {M : Type 1} → statement M

@@ -1,6 +1,6 @@
 -- `wording::put_said_of_any` meets its contract: what is said is put behind whom it is said of.
 use borrow.Author.Needs.{needs}
-use Rattle.wording.proofs.Fitting.{put-behind}
+use Rattle.wording.proofs.Fitting.{put-whole, put-behind}
 use Rattle.wording.proofs.put_said_of_any.Statement.{statement}
 use Rattle.wording.proofs.put_said_of_any.Tie as tie
 
@@ -16,7 +16,7 @@ same-length c = search needs
 returns : tie.Need-returns
 returns c =
     let words = c .before .before in
-    put-behind (words .before .before .before .before .put-any-senders .ensures) (words .put-saying .ensures)
+    put-behind (words .before .before .before .before .put-any-senders .ensures) (put-whole (words .put-saying .ensures))
 
 pub put-said-of-any-spec : {M : Type 1} → statement M
 put-said-of-any-spec =
