@@ -1,2 +1,4 @@
 -- Laws that belong to no one function.
 pub mod Steps
+pub mod Noting
+pub mod Waiting
