@@ -9,8 +9,8 @@ use lib.Dec.{eqb}
 use lib.ListN.{length}
 use Rattle.meaning.specs.declared.Told.{Told}
 use Rattle.meaning.specs.Lister.{text, said}
-use Rattle.wording.specs.Saying.{refusedLine}
-use Rattle.wording.proofs.Long.{Within, counted, both, numbered, digits-long}
+use Rattle.wording.specs.Worded.{refusedLine}
+use Rattle.wording.proofs.AnswersLong.{Within, counted, both, numbered, digits-long}
 use Rattle.dealer.specs.SlotLength.{down, up, secondsOf}
 use Rattle.dealer.specs.Sentences.{minutes, timed, leastSaid, oursSaid, mostSaid, sentences, askedText}
 

@@ -7,7 +7,7 @@ use Rattle.meaning.specs.declared.Told.{Told}
 use Rattle.meaning.specs.Words.{Bytes}
 use Rattle.meaning.specs.Answer.{isAccepted}
 use Rattle.meaning.specs.Lister.{text, decimal, said}
-use Rattle.wording.specs.Saying.{refusedLine}
+use Rattle.wording.specs.Worded.{refusedLine}
 use Rattle.dealer.specs.SlotLength.{down, up, secondsOf}
 
 -- seconds, as minutes and seconds in brackets

@@ -27,7 +27,7 @@ use Rattle.laws.proofs.Joining.{nobody-chosen, joined-long, joined-keep}
 use Rattle.laws.proofs.Grounds.{level-least}
 use Rattle.laws.proofs.Levels.{most-holds, table-conflicts, level-deep, depth-most, levels-proper}
 use Rattle.limits.specs.Sent.{inflow, sent}
-use Rattle.limits.specs.Line.{lineLag}
+use Rattle.limits.specs.LineOfLevels.{lineLag}
 use Rattle.limits.proofs.Sums.{zero-either, sum-zero, probe-at}
 use Rattle.limits.proofs.Served.{served, inflow-least, inflow-part}
 use Rattle.limits.proofs.Sending.{inflow-add, inflow-same}

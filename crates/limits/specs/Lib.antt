@@ -1,3 +1,3 @@
 -- What the limits are told in besides the meaning.
 pub mod Sent
-pub mod Line
+pub mod LineOfLevels

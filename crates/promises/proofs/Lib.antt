@@ -1,7 +1,7 @@
 -- Read Promises; the others carry it.
 pub mod Numbers
 pub mod Planning
-pub mod Choosing
+pub mod ChosenPlan
 pub mod Bytes
-pub mod Drawing
+pub mod DrawnGraph
 pub mod Promises

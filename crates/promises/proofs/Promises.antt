@@ -36,10 +36,10 @@ use Rattle.readback.specs.Named.{named}
 use Rattle.readback.proofs.Drawn.{written-reads-back, refused-empty}
 use Rattle.readback.proofs.EdgeSet.{tells-edges}
 use Rattle.promises.specs.Graphs.{Draws, textOf}
-use Rattle.promises.proofs.Drawing.{draws, draws-nothing, draws-short}
+use Rattle.promises.proofs.DrawnGraph.{draws, draws-nothing, draws-short}
 use Rattle.promises.specs.Answers.{Planner, probe, level, way, slotsBy, answer, after, planOf, Answers, counted, Accepted, Refused, NoRelay, Room, Short, Passes, Byte, numbers}
 use Rattle.promises.proofs.Planning.{plans, refuses-sheet, refuses-short, never-ten, own-passes, slots-few, by-probe-limit, by-probe-longest, by-probe-heaviest, by-level-limit, by-level-all, decides}
-use Rattle.promises.proofs.Choosing.{first-chosen, second-chosen, neither-chosen}
+use Rattle.promises.proofs.ChosenPlan.{first-chosen, second-chosen, neither-chosen}
 use Rattle.promises.proofs.Bytes.{bytes-good, plan-bytes-decide, plan-bytes-decide-judgement, choice-decided}
 
 -- Demand 1: every accepted sheet gets its plan, by either planner, wherever there is room: number 0, the counts of the paper's plan, and its bytes in front

@@ -1,3 +1,3 @@
 -- Laws that belong to no one function.
-pub mod Saying
-pub mod Long
+pub mod PutWords
+pub mod WordsLong

@@ -4,5 +4,5 @@ pub mod Scan
 pub mod Counts
 pub mod Parts
 pub mod AllWalks
-pub mod Reading
+pub mod SheetRead
 pub mod Standing

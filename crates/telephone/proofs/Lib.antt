@@ -1,3 +1,3 @@
 -- The telephone's answer. Read Limits for what is promised of it; Answered carries the code.
-pub mod Answered
+pub mod Telephoned
 pub mod Limits

@@ -22,7 +22,7 @@ use Rattle.laws.proofs.Own.{OwnPlan, by-probe-plan}
 use Rattle.limits.proofs.Hops.{hops-limit}
 use Rattle.limits.proofs.Fewest.{slots-least}
 use Rattle.limits.proofs.MostByProbe.{by-probe-most}
-use Rattle.telephone.proofs.Answered.{whole, nothing, tells, asked-tells}
+use Rattle.telephone.proofs.Telephoned.{whole, nothing, tells, asked-tells}
 
 module _ (s : List ℕ) where
   abbrev slots : List (List ℕ)

@@ -1,2 +1,2 @@
 -- A law that belongs to no one function.
-pub mod Status
+pub mod StatusSaid

@@ -1,5 +1,5 @@
 -- Laws that belong to no one function.
 pub mod Fitting
-pub mod Saying
-pub mod Long
+pub mod WhichLine
+pub mod AnswersLong
 pub mod Wordings

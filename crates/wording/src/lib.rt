@@ -5,7 +5,7 @@ ghost use Prim.Native.Nat.{_≤_, min};
 ghost use lib.ListN.{length, take};
 ghost use Rattle.meaning.specs.Lister.{text, refusal};
 ghost use Rattle.lines.specs.Line.{lineLength, lineIn};
-ghost use Rattle.wording.specs.Saying.{ofSenders, subject, saidOf, anySenders, theSenders, namedSenders, refusedLine, blamedLine, plannedLine, verdictLine, choiceLine, choiceText, writtenLine, misreadLine};
+ghost use Rattle.wording.specs.Worded.{ofSenders, subject, saidOf, anySenders, theSenders, namedSenders, refusedLine, blamedLine, plannedLine, verdictLine, choiceLine, choiceText, writtenLine, misreadLine};
 ghost use Rattle.wording.specs.Fits.{Fits};
 use meaning::Choice;
 use meaning::Judgement;

@@ -9,8 +9,8 @@ use borrow.Author.Needs.{needs}
 use Rattle.meaning.specs.Words.{tab, places}
 use Rattle.meaning.specs.Sheet.{parentOf}
 use Rattle.meaning.specs.Answer.{isAccepted, countsTest}
-use Rattle.sheet.proofs.Reading.{probesAnswer, walksAnswer, pairsAnswer, no-number, probes-read, parents-read, packets-read, pairs-read}
-use Rattle.sheet.proofs.Reading.{walks-read, levels-read, few-probes, counts-decide, probes-decide, walks-decide, pairs-decide, tree-read}
+use Rattle.sheet.proofs.SheetRead.{probesAnswer, walksAnswer, pairsAnswer, no-number, probes-read, parents-read, packets-read, pairs-read}
+use Rattle.sheet.proofs.SheetRead.{walks-read, levels-read, few-probes, counts-decide, probes-decide, walks-decide, pairs-decide, tree-read}
 use Rattle.sheet.proofs.read.Statement.{statement}
 use Rattle.sheet.proofs.read.Tie as tie
 

@@ -4,7 +4,7 @@ use mathlib.Core.List.{List}
 use Prim.Native.Nat.{ℕ}
 use lib.ListN.{length, replicate, length-replicate}
 use Rattle.meaning.specs.Plan.{anyPlan}
-use Rattle.telephone.proofs.Answered.{ask-refused, most-fits, ask-planned}
+use Rattle.telephone.proofs.Telephoned.{ask-refused, most-fits, ask-planned}
 use native.Mathlib.Omega.{arith}
 use borrow.Author.Needs.{needs}
 use Rattle.telephone.proofs.ask.Statement.{statement}

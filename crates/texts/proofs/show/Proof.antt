@@ -2,7 +2,7 @@
 use mathlib.Core.Logic.{inr}
 use mathlib.Core.Path.{refl}
 use borrow.Author.Needs.{needs}
-use Rattle.texts.proofs.Status.{said-status}
+use Rattle.texts.proofs.StatusSaid.{said-status}
 use Rattle.texts.proofs.show.Statement.{statement}
 use Rattle.texts.proofs.show.Tie as tie
 

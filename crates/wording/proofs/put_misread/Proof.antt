@@ -1,7 +1,7 @@
 -- `wording::put_misread` meets its contract: its parts are put one behind the other.
 use borrow.Author.Needs.{needs}
 use Rattle.meaning.specs.Lister.{text}
-use Rattle.wording.specs.Saying.{misreadLine}
+use Rattle.wording.specs.Worded.{misreadLine}
 use Rattle.wording.proofs.Fitting.{put-whole, put-behind}
 use Rattle.wording.proofs.put_misread.Statement.{statement}
 use Rattle.wording.proofs.put_misread.Tie as tie

@@ -1,7 +1,7 @@
 -- `wording::put_refused` meets its contract: its parts are put one behind the other.
 use borrow.Author.Needs.{needs}
 use Rattle.meaning.specs.Lister.{text}
-use Rattle.wording.specs.Saying.{refusedLine}
+use Rattle.wording.specs.Worded.{refusedLine}
 use Rattle.wording.proofs.Fitting.{put-whole, put-behind}
 use Rattle.wording.proofs.put_refused.Statement.{statement}
 use Rattle.wording.proofs.put_refused.Tie as tie

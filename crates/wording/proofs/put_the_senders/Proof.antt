@@ -2,7 +2,7 @@
 use borrow.Author.Needs.{needs}
 use Rattle.meaning.specs.Lister.{text}
 use Rattle.wording.proofs.Fitting.{put-whole, put-behind}
-use Rattle.wording.proofs.Saying.{put-two, put-one}
+use Rattle.wording.proofs.WhichLine.{put-two, put-one}
 use Rattle.wording.proofs.put_the_senders.Statement.{statement}
 use Rattle.wording.proofs.put_the_senders.Tie as tie
 

@@ -3,7 +3,7 @@ use borrow.Author.Needs.{needs}
 use mathlib.Core.Path.{sym, ap}
 use Rattle.meaning.specs.Lister.{text, said}
 use Rattle.wording.proofs.Fitting.{put-whole, put-behind, put-same}
-use Rattle.wording.proofs.Saying.{written-line, unwritten-line}
+use Rattle.wording.proofs.WhichLine.{written-line, unwritten-line}
 use Rattle.wording.proofs.put_written.Statement.{statement}
 use Rattle.wording.proofs.put_written.Tie as tie
 use Rattle.lines.proofs.put_counted.Reads as put-counted-reads

@@ -8,7 +8,7 @@ use Rattle.meaning.specs.declared.Outcome.{Outcome}
 use Rattle.meaning.specs.declared.Planned.{Planned}
 use Rattle.meaning.specs.declared.Judgement.{Judgement}
 use Rattle.meaning.specs.Lister.{text, said}
-use Rattle.wording.specs.Saying.{ofSenders, subject, oneOrTwo, refusedLine, blamedLine, plannedLine, verdictLine, writtenLine}
+use Rattle.wording.specs.Worded.{ofSenders, subject, oneOrTwo, refusedLine, blamedLine, plannedLine, verdictLine, writtenLine}
 use Rattle.wording.specs.Fits.{Fits}
 use Rattle.wording.proofs.Fitting.{put-nothing}
 

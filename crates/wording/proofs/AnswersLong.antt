@@ -19,8 +19,8 @@ use Rattle.meaning.specs.Lister.{text, decimal, said}
 use Rattle.lines.proofs.Decimal.{digits-most}
 use Rattle.lines.proofs.Lined.{said-length}
 use Rattle.sayings.specs.Saying.{saying}
-use Rattle.sayings.proofs.Long.{saying-long, saying-short}
-use Rattle.wording.specs.Saying.{subject, saidOf, oneOrTwo, anySenders, namedSenders, refusedOf, refusedLine, blamedLine, plannedLine, verdictLine, choiceLine, choiceText, writtenLine, misreadLine}
+use Rattle.sayings.proofs.WordsLong.{saying-long, saying-short}
+use Rattle.wording.specs.Worded.{subject, saidOf, oneOrTwo, anySenders, namedSenders, refusedOf, refusedLine, blamedLine, plannedLine, verdictLine, choiceLine, choiceText, writtenLine, misreadLine}
 
 -- so many bytes at most
 pub record Within (bytes : List ℕ) (most : ℕ) : Type 0 where
