@@ -45,7 +45,7 @@ int main(int argc, char **argv) {
   fclose(file);
 
   yard_told told = yard_ask(sheet, length);
-  if (!told.number) printf("at least %d slots, ours %d, at most %d\n", told.least, told.ours, told.most);
+  if (!told.number) printf("at least %d slots, ours %d, at most %d; at most %d times as many as anybody's\n", told.least, told.ours, told.most, told.times);
 
   yard_planned probe = yard_by_probe(sheet, length, by_probe, YARD_PLAN_BYTES), level = yard_by_level(sheet, length, by_level, YARD_PLAN_BYTES);
   if (probe.number) return printf("no plan: refused %d at %d\n", probe.number, probe.place), 1;

@@ -25,7 +25,7 @@ enum {
   YARD_SHEET_BYTES = 4162,      // how much of a sheet decides every answer: one byte more than the longest has
   YARD_PLAN_BYTES = 60482,      // room for any plan of ours
   YARD_JUDGED_BYTES = 96032,    // how much of a plan, from anybody, decides its verdict
-  YARD_TEXT_BYTES = 302455,     // room for any listing
+  YARD_TEXT_BYTES = 302467,     // room for any listing
   YARD_GRAPH_BYTES = 15081,     // room for any graph's text that is written
   YARD_LIST_STACK = 112 * 1024, // stack that a call of yard_list or yard_ask wants
   YARD_STACK = 48 * 1024        // stack that a call of any other function wants
@@ -55,13 +55,15 @@ typedef struct {
 } yard_verdict;
 
 // What the telephone answers. Answered: number and place are 0; no plan that the judge passes has fewer slots than `least`, our plan by probe has
-// `ours`, and never more than `most`. Refused: number is 1 to 8, place says where, and the other three are 0.
+// `ours`, never more than `most`, and at most `times` times as many as any plan that the judge passes (1 where ours is as long as `least`; 0 where nothing
+// is sent). Refused: number is 1 to 8, place says where, and the other four are 0.
 typedef struct {
   uint8_t number;
   uint16_t place;
   uint16_t least;
   uint16_t ours;
   uint16_t most;
+  uint8_t times;
 } yard_told;
 
 // How long one reading takes, before anything is sent. The caller provides a sheet and gets the answer; nothing is written.

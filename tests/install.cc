@@ -5,5 +5,5 @@
 int main() {
   const uint8_t alone[] = {0, 0, 0};
   yard_told told = yard_ask(alone, sizeof alone);
-  std::printf("%d %d: %d %d %d, stack %d\n", told.number, told.place, told.least, told.ours, told.most, YARD_LIST_STACK);
+  std::printf("%d %d: %d %d %d %d, stack %d\n", told.number, told.place, told.least, told.ours, told.most, told.times, YARD_LIST_STACK);
 }

@@ -19,7 +19,7 @@ static unsigned char sheet[MOST_SHEET], got[YARD_TEXT_BYTES + 8], want[YARD_TEXT
 static unsigned char sheet_lent[MOST_SHEET], plan_lent[2][MOST_PLAN];
 static unsigned char text[MOST_TEXT], text_lent[MOST_TEXT];
 static long sheets, yards, relayed, plannings, plans, listings, asked, drawings, texts, numbers[NUMBERS], placed[NUMBERS][PLACES];
-static long blamed, ordered, ordered_by[NUMBERS][ORDERS];
+static long blamed, ordered, ordered_by[NUMBERS][ORDERS], others, shorter, shortest;
 
 // ---- chance
 
@@ -149,22 +149,30 @@ static yard_verdict compare_judge(size_t len, int which, size_t size) {
   return b;
 }
 
+// What the second reading tells of the sheet must hold of every plan that passes, whoever made it.
+static yard_told told;
+
+static void limits(size_t len, yard_verdict r, size_t first, size_t second) {
+  if (r.number == 0 && (r.slots < told.least || told.times * r.slots < told.ours)) differ("limits on anybody's plan", len, 0, first, second);
+}
+
 static void compare_plans(size_t len, size_t first, size_t second) {
   lend(len, first, second);
-  compare_judge(len, 0, first), compare_judge(len, 1, second);
+  limits(len, compare_judge(len, 0, first), first, 0), limits(len, compare_judge(len, 1, second), 0, second);
   if (yard_choose(sheet, len, plan[0], first, plan[1], second) != second_choose(sheet, len, plan[0], first, plan[1], second))
     differ("chooser", len, 0, first, second);
   unchanged(len, first, second);
 }
 
 // The telephone's answer, of which the limits must hold.
-static void compare_told(size_t len) {
+static yard_told compare_told(size_t len) {
   lend(len, 0, 0);
   yard_told a = yard_ask(sheet, len), b = second_ask(sheet, len);
   asked++;
   unchanged(len, 0, 0);
-  if (a.number != b.number || a.place != b.place || a.least != b.least || a.ours != b.ours || a.most != b.most) differ("telephone", len, 0, 0, 0);
+  if (a.number != b.number || a.place != b.place || a.least != b.least || a.ours != b.ours || a.most != b.most || a.times != b.times) differ("telephone", len, 0, 0, 0);
   if (a.least > a.ours || a.ours > a.most) differ("telephone's limits", len, 0, 0, 0);
+  return b;
 }
 
 static void compare_listing(size_t len, size_t room) {
@@ -337,6 +345,55 @@ static size_t some_plan(unsigned char *to, size_t size) {
   if (how == 1) return most_slots(to, size);
   if (how == 2) return sheet[0] ? crowd(to, size, sheet[0] + 1) : size;
   return how < 7 ? damage(to, size, MOST_PLAN - 140000) : size;
+}
+
+// ---- plans of nobody's planner: each slot is a random one to which no holder can be added, by the conflicts and packets alone
+
+static int outside(void) {
+  for (int v = 2; v <= sheet[0] + 1; v++)
+    if (held[v]) return 1;
+  return 0;
+}
+
+static int fits(int v, const unsigned char *sends) {
+  for (int u = 2; u <= sheet[0] + 1; u++)
+    if (sends[u] && conflict(u, v)) return 0;
+  return held[v] > 0;
+}
+
+static size_t send_slot(unsigned char *to, const unsigned char *sends) {
+  size_t many = 0;
+  for (int v = 2; v <= sheet[0] + 1; v++)
+    if (sends[v]) to[++many] = (unsigned char)v;
+  to[0] = (unsigned char)many;
+  for (size_t k = 1; k <= many; k++) held[to[k]]--, held[sheet[2 * to[k] - 3]]++;
+  return many + 1;
+}
+
+static size_t random_slot(unsigned char *to) {
+  unsigned char sends[NODES] = {0};
+  int p = sheet[0], order[NODES];
+  for (int k = 0; k < p; k++) {
+    int j = (int)rnd((uint32_t)k + 1);
+    order[k] = order[j], order[j] = k + 2;
+  }
+  for (int k = 0; k < p; k++) sends[order[k]] = (unsigned char)fits(order[k], sends);
+  return send_slot(to, sends);
+}
+
+// Such a plan must pass, and the limits must hold of it. How many are shorter than ours, and how many as short as any can be, is counted.
+static void anybodys(size_t len) {
+  size_t size = come_to(plan[0], 1);
+  int slots = 0;
+  second_conflicts(sheet, len, conflicts);
+  for (; outside(); slots++) size += random_slot(plan[0] + size);
+  put_count(plan[0], slots);
+  lend(len, size, 0);
+  yard_verdict r = compare_judge(len, 0, size);
+  unchanged(len, size, 0);
+  if (r.number || r.slots != slots) differ("a plan of nobody's planner", len, 0, size, 0);
+  limits(len, r, size, 0);
+  others++, shorter += slots < told.ours, shortest += slots == told.least;
 }
 
 // ---- refused slots; whom each names is told by how it is made, so that the second reading is tried too
@@ -736,6 +793,8 @@ static void compare(long want_yards, long want_plans) {
   while (yards < want_yards || plans < want_plans) {
     size_t len = some_sheet(), room = second_room(sheet, len);
     sheets++, yards += room > 0, relayed += room > 0 && has_relay();
+    told = compare_told(len);
+    if (room > 0) anybodys(len);
     if (room == 0) room = rnd(40);
     for (int by_level = 0; by_level < 2; by_level++) {
       uint32_t off = rnd(4);
@@ -748,7 +807,7 @@ static void compare(long want_yards, long want_plans) {
       }
       compare_names(len, bytes);
     }
-    compare_listing(len, rnd(16) ? YARD_TEXT_BYTES : YARD_TEXT_BYTES - 1), compare_told(len), compare_graphs(len);
+    compare_listing(len, rnd(16) ? YARD_TEXT_BYTES : YARD_TEXT_BYTES - 1), compare_graphs(len);
   }
 }
 
@@ -801,6 +860,11 @@ static void enough(void) {
     if (k != 10 && numbers[k] < ENOUGH) printf("number %d was met only %ld times\n", k, numbers[k]), exit(1);
 }
 
+// So is a plan of nobody's planner that is shorter than ours, and one that is as short as any can be.
+static void enough_others(void) {
+  if (shorter < ENOUGH || shortest < ENOUGH) printf("only %ld plans were shorter than ours, and %ld as short as any\n", shorter, shortest), exit(1);
+}
+
 // So is, for each number that names someone, a slot in which another order would name another.
 static void enough_orders(void) {
   static const char *const names[] = {"backwards", "otherwise"};
@@ -846,7 +910,7 @@ static void show_sheet(size_t len, size_t room) {
   show_plan("library by probe", yard_by_probe(sheet, len, got, room), room), show_plan("second by probe", second_by_probe(sheet, len, got, room), room);
   show_plan("library by level", yard_by_level(sheet, len, got, room), room), show_plan("second by level", second_by_level(sheet, len, got, room), room);
   yard_told a = yard_ask(sheet, len), b = second_ask(sheet, len);
-  printf("library tells: %d at %d, %d, %d, %d; second tells: %d at %d, %d, %d, %d\n", a.number, a.place, a.least, a.ours, a.most, b.number, b.place, b.least, b.ours, b.most);
+  printf("library tells: %d at %d, %d, %d, %d, %d; second tells: %d at %d, %d, %d, %d, %d\n", a.number, a.place, a.least, a.ours, a.most, a.times, b.number, b.place, b.least, b.ours, b.most, b.times);
   printf("library lists:\n"), fwrite(got, 1, yard_list(sheet, len, got, YARD_TEXT_BYTES), stdout);
   printf("second lists:\n"), fwrite(got, 1, second_list(sheet, len, (char *)got), stdout);
   show_graph("library draws", yard_graph_write(sheet, len, got, room)), show_graph("second draws", second_graph_write(sheet, len, got, room));
@@ -888,9 +952,10 @@ int main(int argc, char **argv) {
   sizes();
   slot_by_slot(), byte_by_byte(), long_texts();
   compare(atol(argv[2]), atol(argv[3]));
-  if (yards >= 20000) enough(), enough_orders(), enough_places();
+  if (yards >= 20000) enough(), enough_others(), enough_orders(), enough_places();
   printf("%ld yards, %ld of them with relays, and %ld refused sheets, %ld plannings, %ld listings, %ld telephone answers and %ld judged plans agree; by number:", yards, relayed, sheets - yards, plannings, listings, asked, plans);
   for (int k = 0; k < NUMBERS; k++) printf(" %d: %ld", k, numbers[k]);
+  printf("\n%ld plans of nobody's planner keep the limits, %ld of them shorter than ours, and %ld as short as any can be", others, shorter, shortest);
   printf("\n%ld refused plans name senders, and in %ld of them another order would name others; backwards, otherwise:", blamed, ordered);
   for (int k = 12; k < 16; k++) printf(" %d: %ld %ld", k, ordered_by[k][BACKWARDS], ordered_by[k][OTHERWISE]);
   printf("\n%ld graphs written and %ld texts read agree; accepted: %ld; refused nowhere, in the first line, between, in the last, behind line 65,535:", drawings, texts, placed[0][NOWHERE]);

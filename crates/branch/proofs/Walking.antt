@@ -14,6 +14,8 @@ use Rattle.meaning.specs.Words.{places, sum, most}
 use Rattle.laws.proofs.Turns.{same-or-other, sum-one, sum-same, sum-constant, most-one}
 use Rattle.laws.proofs.Walk.{reaches-on, lag-here, lag-on}
 use Rattle.laws.proofs.Levels.{most-holds, most-within}
+use Rattle.branch.specs.declared.Weighed.{Weighed}
+use Rattle.branch.specs.declared.Weighed.the-variants.{Packets, WithLag, AtTop}
 use Rattle.branch.specs.Weight.{weightOf}
 
 module _ (parent : ℕ → ℕ) (top : ℕ) where
@@ -129,10 +131,11 @@ module _ (parents packets : List ℕ) (long : length packets ≡ places) (p : �
     no-lag : branchLag p parent packetsOf top ≤ 0
     no-lag = most-within p _ 0 (λ k _. omega (arith, brings-never (k + 2) _ (lag-here parent packetsOf top p 0 (k + 2))))
 
-    weightless : (lags : Bool) → weightOf lags p parent packetsOf top ≡ 0
-    weightless true = omega (arith, no-packets, no-lag)
-    weightless false = no-packets
+    weightless : (what : Weighed) → weightOf what p parent packetsOf top ≡ 0
+    weightless Packets = no-packets
+    weightless WithLag = omega (arith, no-packets, no-lag)
+    weightless AtTop = omega (arith, no-packets)
 
-  pub most-past : ((v : ℕ) → parent v < 256) → (lags : Bool) (k best : ℕ) → 254 ≤ k → best ≡ most k (λ i. weightOf lags p parent packetsOf (i + 2))
-      → best ≡ most (k + 1) (λ i. weightOf lags p parent packetsOf (i + 2))
-  most-past bytes lags k best h e = most-stays k _ best e (omega (arith, weightless bytes (k + 2) (omega arith) lags))
+  pub most-past : ((v : ℕ) → parent v < 256) → (what : Weighed) (k best : ℕ) → 254 ≤ k → best ≡ most k (λ i. weightOf what p parent packetsOf (i + 2))
+      → best ≡ most (k + 1) (λ i. weightOf what p parent packetsOf (i + 2))
+  most-past bytes what k best h e = most-stays k _ best e (omega (arith, weightless bytes (k + 2) (omega arith) what))

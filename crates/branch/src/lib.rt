@@ -1,12 +1,19 @@
-// The packets of a yard, of its heaviest branch, and of its slowest one with the lag. Tables are by node; outside them every number is 0.
+// The packets of a yard, of its heaviest branch, of its slowest one with the lag, and the fewest slots of any plan. Tables are by node; outside them every number is 0.
 ghost use mathlib.Core.Path.{_≡_};
 ghost use mathlib.Core.Bool.{cond};
 ghost use Prim.Native.Nat.{_-_, _*_, _≤_, max};
 ghost use lib.ListN.{length, getD};
 ghost use Rattle.meaning.specs.Words.{places, sumProbes, mostProbes, byNode};
-ghost use Rattle.meaning.specs.Yard.{reaches, lagOn, branchPackets, branchLag, heaviestOf, slowestOf};
+ghost use Rattle.meaning.specs.Yard.{reaches, lagOn, branchPackets, branchLag, hearsAndSends, heaviestOf, slowestOf, leastSlotsOf};
 ghost use Rattle.branch.specs.Weight.{weightOf};
 use meaning::Probe;
+
+// What of a branch is weighed: its packets, these and its lag, or what its top hears and sends.
+enum Weighed {
+    Packets,
+    WithLag,
+    AtTop,
+}
 
 // All packets of the p probes.
 pub fn all_packets(p: u8, packets: &[u8; 65]) -> u16
@@ -51,7 +58,7 @@ fn brought(p: u8, parents: &[u8; 65], packets: &[u8; 65], top: Probe, v: Probe) 
 // The packets of the branch of top; a probe past the table's end has none.
 fn branch(p: u8, parents: &[u8; 65], packets: &[u8; 65], top: Probe) -> u16
     requires { ⌜ length (now packets) ≡ places ⌝ }
-    ensures { λ r. ⌜ (r ≡ branchPackets p (byNode (now (parents .entry))) (byNode (now (packets .entry))) (top .0)) × (r ≤ 255 * p) ⌝ }
+    ensures { λ r. ⌜ (r ≡ branchPackets p (byNode (now (parents .entry))) (byNode (now (packets .entry))) (top .0)) × (r ≤ 255 * 63) ⌝ }
 {
     let mut all: u16 = 0;
     let mut k: u8 = 0;
@@ -132,27 +139,41 @@ fn branch_lag(p: u8, parents: &[u8; 65], packets: &[u8; 65], top: Probe) -> u16
     most
 }
 
-// The packets of the branch of top, and its lag where lags count.
-fn weight(p: u8, parents: &[u8; 65], packets: &[u8; 65], lags: bool, top: Probe) -> u16
+// What top hears and sends, for its branch has so many packets; never below 0.
+fn hears_and_sends(all: u16, packets: &[u8; 65], top: Probe) -> u16
+    requires { ⌜ all ≤ 255 * 63 ⌝ }
+    ensures { λ r. ⌜ r ≡ 2 * all - getD (now (packets .entry)) (top .0) 0 ⌝ }
+{
+    let twice = 2 * all;
+    let own = laws::number_at(packets, top.0 as usize) as u16;
+    if twice < own {
+        return 0;
+    }
+    twice - own
+}
+
+// What the branch of top weighs.
+fn weight(p: u8, parents: &[u8; 65], packets: &[u8; 65], what: Weighed, top: Probe) -> u16
     requires { ⌜ (length (now parents) ≡ places) × (length (now packets) ≡ places) ⌝ }
-    ensures { λ r. ⌜ r ≡ weightOf lags p (byNode (now (parents .entry))) (byNode (now (packets .entry))) (top .0) ⌝ }
+    ensures { λ r. ⌜ r ≡ weightOf what p (byNode (now (parents .entry))) (byNode (now (packets .entry))) (top .0) ⌝ }
 {
     let all = branch(p, parents, packets, top);
-    if lags {
-        return all + branch_lag(p, parents, packets, top);
+    match what {
+        Weighed::Packets => all,
+        Weighed::WithLag => all + branch_lag(p, parents, packets, top),
+        Weighed::AtTop => hears_and_sends(all, packets, top),
     }
-    all
 }
 
 // The most that a branch weighs, 0 with no probes; no walk comes to 256, the last of 255 probes, which is no byte.
-fn most_weight(p: u8, parents: [u8; 65], packets: [u8; 65], lags: bool) -> u16
-    ensures { λ r. ⌜ r ≡ mostProbes p (weightOf lags p (byNode parents) (byNode packets)) ⌝ }
+fn most_weight(p: u8, parents: [u8; 65], packets: [u8; 65], what: Weighed) -> u16
+    ensures { λ r. ⌜ r ≡ mostProbes p (weightOf what p (byNode parents) (byNode packets)) ⌝ }
 {
     let mut best: u16 = 0;
     let mut k: u8 = 0;
     while k < p {
         if k < 254 {
-            best = larger(best, weight(p, &parents, &packets, lags, Probe(k + 2)));
+            best = larger(best, weight(p, &parents, &packets, what, Probe(k + 2)));
         }
         k += 1;
     }
@@ -163,12 +184,20 @@ fn most_weight(p: u8, parents: [u8; 65], packets: [u8; 65], lags: bool) -> u16
 pub fn heaviest(p: u8, parents: [u8; 65], packets: [u8; 65]) -> u16
     ensures { λ r. ⌜ r ≡ heaviestOf p (byNode parents) (byNode packets) ⌝ }
 {
-    most_weight(p, parents, packets, false)
+    most_weight(p, parents, packets, Weighed::Packets)
 }
 
 // The packets and the lag of the slowest branch, 0 with no probes.
 pub fn slowest(p: u8, parents: [u8; 65], packets: [u8; 65]) -> u16
     ensures { λ r. ⌜ r ≡ slowestOf p (byNode parents) (byNode packets) ⌝ }
 {
-    most_weight(p, parents, packets, true)
+    most_weight(p, parents, packets, Weighed::WithLag)
+}
+
+// The fewest slots of any plan: all packets, or more where a probe hears and sends more; 0 with no probes.
+pub fn least_slots(p: u8, parents: [u8; 65], packets: [u8; 65]) -> u16
+    ensures { λ r. ⌜ r ≡ leastSlotsOf p (byNode parents) (byNode packets) ⌝ }
+{
+    let all = all_packets(p, &packets);
+    larger(all, most_weight(p, parents, packets, Weighed::AtTop))
 }

@@ -2,17 +2,17 @@
 use mathlib.Core.Path.{_≡_, refl, ap}
 use mathlib.Core.Bool.{Bool, true, false, cond}
 use mathlib.Core.List.{List, [], _++_}
-use Prim.Native.Nat.{ℕ, _+_, _/_, _%_, _≤_}
+use Prim.Native.Nat.{ℕ, _+_, _/_, _%_, _≤_, _<_}
 use native.Mathlib.Omega.{arith}
-use borrow.Author.Tests.{eq-eqb, ne-eqb}
-use lib.Dec.{eqb}
+use borrow.Author.Tests.{eq-eqb, ne-eqb, lt-ltb, le-ltb}
+use lib.Dec.{eqb, ltb}
 use lib.ListN.{length}
 use Rattle.meaning.specs.declared.Told.{Told}
-use Rattle.meaning.specs.Lister.{text, said}
+use Rattle.meaning.specs.Lister.{text, decimal, said}
 use Rattle.wording.specs.Worded.{refusedLine}
 use Rattle.wording.proofs.AnswersLong.{Within, counted, both, numbered, digits-long}
 use Rattle.dealer.specs.SlotLength.{down, up, secondsOf}
-use Rattle.dealer.specs.Sentences.{minutes, timed, leastSaid, oursSaid, mostSaid, sentences, askedText}
+use Rattle.dealer.specs.Sentences.{minutes, timed, leastSaid, oursSaid, mostSaid, nobodySaid, sentences, askedText}
 
 -- a slot's length is known, or not
 module _ (slots ms rounding : ℕ) where
@@ -23,6 +23,16 @@ module _ (slots ms rounding : ℕ) where
   pub time-unsaid : ms ≡ 0 → [] ≡ timed slots ms rounding
   unfolding timed
   time-unsaid none = rw (eq-eqb ms 0 none)
+
+-- our plan is longer than the least, or not
+module _ (least ours times : ℕ) where
+  pub part-said : least < ours → text " Nobody's plan can be less than 1/" ++ decimal 5 times ++ text " of ours.\n" ≡ nobodySaid least ours times
+  unfolding nobodySaid
+  part-said longer = rw (lt-ltb least ours longer)
+
+  pub none-shorter : ours ≤ least → text " Nobody's plan is shorter.\n" ≡ nobodySaid least ours times
+  unfolding nobodySaid
+  none-shorter least-slots = rw (le-ltb least ours least-slots)
 
 -- a sheet is answered, or refused
 module _ (told : Told) (ms : ℕ) where
@@ -59,12 +69,23 @@ unfolding text oursSaid
 ours-long slots ms =
     both (both (numbered {a = 15} " Our plan takes" slots (counted refl)) (time-long slots ms up)) (counted {bytes = text "."} {most = 1} refl)
 
-most-long : (slots ms : ℕ) → Within (mostSaid slots ms) 53
+most-long : (slots ms : ℕ) → Within (mostSaid slots ms) 52
 unfolding text mostSaid
 most-long slots ms =
-    both (both (numbered {a = 25} " It never takes more than" slots (counted refl)) (time-long slots ms up)) (counted {bytes = text ".\n"} {most = 2} refl)
+    both (both (numbered {a = 25} " It never takes more than" slots (counted refl)) (time-long slots ms up)) (counted {bytes = text "."} {most = 1} refl)
+
+nobody-long : (least ours times : ℕ) → Within (nobodySaid least ours times) 49
+unfolding text nobodySaid
+nobody-long least ours times = go (ltb least ours)
+  where
+    go : (b : Bool) → Within (cond b (text " Nobody's plan can be less than 1/" ++ decimal 5 times ++ text " of ours.\n") (text " Nobody's plan is shorter.\n")) 49
+    go true =
+        both (both (counted {bytes = text " Nobody's plan can be less than 1/"} {most = 34} refl) (digits-long times))
+        (counted {bytes = text " of ours.\n"} {most = 10} refl)
+    go false = counted refl
 
 pub sentences-most : (told : Told) (ms : ℕ) → length (sentences told ms) ≤ 256
 sentences-most told ms =
-    let all = both (both (least-long (told .least) ms) (ours-long (told .ours) ms)) (most-long (told .most) ms) in
+    let slots = both (both (least-long (told .least) ms) (ours-long (told .ours) ms)) (most-long (told .most) ms) in
+    let all = both slots (nobody-long (told .least) (told .ours) (told .times)) in
     omega (arith, all .short)

@@ -1,8 +1,8 @@
--- RULES, "The answers in words": what is said on the telephone, three sentences, each with its slots and, where a slot's length is known, with its minutes and seconds.
+-- RULES, "The answers in words": what is said on the telephone, four sentences, their slots with minutes and seconds too where a slot's length is known.
 use mathlib.Core.Bool.{cond}
 use mathlib.Core.List.{[], _++_}
 use Prim.Native.Nat.{ℕ, _/_, _%_}
-use lib.Dec.{eqb}
+use lib.Dec.{eqb, ltb}
 use Rattle.meaning.specs.declared.Told.{Told}
 use Rattle.meaning.specs.Words.{Bytes}
 use Rattle.meaning.specs.Answer.{isAccepted}
@@ -28,10 +28,15 @@ oursSaid slots ms = said " Our plan takes" slots ++ timed slots ms up ++ text ".
 
 -- our plan never takes more: the time is rounded up
 unfoldable pub mostSaid : (slots ms : ℕ) → Bytes
-mostSaid slots ms = said " It never takes more than" slots ++ timed slots ms up ++ text ".\n"
+mostSaid slots ms = said " It never takes more than" slots ++ timed slots ms up ++ text "."
+
+-- how much shorter anybody's plan can be than ours: not at all where ours has the least slots, and else never less than its part
+unfoldable pub nobodySaid : (least ours times : ℕ) → Bytes
+nobodySaid least ours times =
+    cond (ltb least ours) (text " Nobody's plan can be less than 1/" ++ decimal 5 times ++ text " of ours.\n") (text " Nobody's plan is shorter.\n")
 
 abbrev pub sentences : Told → (ms : ℕ) → Bytes
-sentences told ms = leastSaid (told .least) ms ++ oursSaid (told .ours) ms ++ mostSaid (told .most) ms
+sentences told ms = leastSaid (told .least) ms ++ oursSaid (told .ours) ms ++ mostSaid (told .most) ms ++ nobodySaid (told .least) (told .ours) (told .times)
 
 -- the sentences, or the line of a refusal
 unfoldable pub askedText : Told → (ms : ℕ) → Bytes

@@ -1,11 +1,11 @@
-// The telephone in the dealer's words: how long a slot is, and the three sentences about a sheet.
+// The telephone in the dealer's words: how long a slot is, and the four sentences about a sheet.
 ghost use mathlib.Core.Path.{_≡_};
 ghost use Prim.Native.Nat.{_≤_, min};
 ghost use lib.ListN.{length, take};
 ghost use Rattle.lines.specs.Line.{lineLength, lineIn};
 ghost use Rattle.wording.specs.Fits.{Fits};
 ghost use Rattle.dealer.specs.SlotLength.{longestSlot, millisecondsSaid, secondsOf};
-ghost use Rattle.dealer.specs.Sentences.{timed, leastSaid, oursSaid, mostSaid, sentences, askedText};
+ghost use Rattle.dealer.specs.Sentences.{timed, leastSaid, oursSaid, mostSaid, nobodySaid, sentences, askedText};
 use meaning::Told;
 
 // A slot is at most a minute long, in milliseconds.
@@ -79,16 +79,28 @@ fn put_most(slots: u16, ms: u16, out: &mut [u8], at: usize) -> usize
 {
     let a = lines::put_counted(b" It never takes more than ", slots, out, at);
     let end = put_timed(slots, ms, 999, out, a);
-    lines::put_words(b".\n", out, end)
+    lines::put_words(b".", out, end)
 }
 
-// Puts the three sentences at a place; says where they end.
+// The same of how much shorter than ours anybody's plan can be.
+fn put_nobody(least: u16, ours: u16, times: u8, out: &mut [u8], at: usize) -> usize
+    ensures { λ r. ⌜ Fits (now (out .entry)) at (nobodySaid least ours times) (now (out .exit)) r ⌝ }
+{
+    if least < ours {
+        let a = lines::put_counted(b" Nobody's plan can be less than 1/", times as u16, out, at);
+        return lines::put_words(b" of ours.\n", out, a);
+    }
+    lines::put_words(b" Nobody's plan is shorter.\n", out, at)
+}
+
+// Puts the four sentences at a place; says where they end.
 fn put_sentences(told: Told, ms: u16, out: &mut [u8], at: usize) -> usize
     ensures { λ r. ⌜ Fits (now (out .entry)) at (sentences told ms) (now (out .exit)) r ⌝ }
 {
     let a = put_least(told.least, ms, out, at);
     let b = put_ours(told.ours, ms, out, a);
-    put_most(told.most, ms, out, b)
+    let d = put_most(told.most, ms, out, b);
+    put_nobody(told.least, told.ours, told.times, out, d)
 }
 
 // What is said of a sheet, at the start of a lent buffer, in minutes too where ms is not 0; says how many bytes it has, 0 and nothing written where they do not fit.

@@ -5,6 +5,8 @@ ghost use lib.ListN.{length, replicate};
 ghost use lib.Seq.{sets};
 ghost use Rattle.libc.specs.Io.{Moved};
 ghost use Rattle.io.specs.Counts.{Counts};
+ghost use Rattle.meaning.specs.Plan.{decidingPlan};
+ghost use Rattle.meaning.specs.Lister.{anyText};
 ghost use Rattle.lines.specs.Line.{fitting};
 ghost use Rattle.files.specs.Status.{answered, failed, statusOf, OrFailed, Descriptor};
 ghost use Rattle.files.specs.Name.{isDash, plainByte, flattened};
@@ -25,16 +27,16 @@ const STATUS_FILENO: i32 = 3;
 
 // Room for any plan of ours, and for as much of another as decides its verdict; all zeros.
 pub fn plan_room() -> [u8; meaning::DECIDING_PLAN]
-    ensures zeros { λ r. ⌜ r ≡ replicate 96032 0 ⌝ }
-    ensures long { λ r. ⌜ 96032 ≡ length r ⌝ }
+    ensures zeros { λ r. ⌜ r ≡ replicate decidingPlan 0 ⌝ }
+    ensures long { λ r. ⌜ decidingPlan ≡ length r ⌝ }
 {
     [0; meaning::DECIDING_PLAN]
 }
 
 // Room for any text of the lister; all zeros.
 pub fn text_room() -> [u8; meaning::ANY_TEXT]
-    ensures zeros { λ r. ⌜ r ≡ replicate 302455 0 ⌝ }
-    ensures long { λ r. ⌜ 302455 ≡ length r ⌝ }
+    ensures zeros { λ r. ⌜ r ≡ replicate anyText 0 ⌝ }
+    ensures long { λ r. ⌜ anyText ≡ length r ⌝ }
 {
     [0; meaning::ANY_TEXT]
 }

@@ -30,9 +30,10 @@ flatVerdict r =
       second = r .names .second;
     }
 
--- Demand 3, on the telephone: number, place, and the slots at least, in our plan and at most
+-- Demand 3, on the telephone: number, place, the slots at least, in our plan and at most, and how many times anybody's
 abbrev pub flatTold : Told → YardTold
-flatTold r = record { number = r .outcome .number; place = r .outcome .place; least = r .least; ours = r .ours; most = r .most }
+flatTold r =
+    record { number = r .outcome .number; place = r .outcome .place; least = r .least; ours = r .ours; most = r .most; times = r .times }
 
 -- "A graph as text", written: number, place and bytes
 abbrev pub flatDrawn : Drawn → YardDrawn

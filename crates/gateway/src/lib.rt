@@ -48,6 +48,7 @@ pub struct YardTold {
     pub least: u16,
     pub ours: u16,
     pub most: u16,
+    pub times: u8,
 }
 
 // What the writer of a graph answers, with C's layout.
@@ -104,6 +105,7 @@ fn told(r: Told) -> YardTold
         least: r.least,
         ours: r.ours,
         most: r.most,
+        times: r.times,
     }
 }
 

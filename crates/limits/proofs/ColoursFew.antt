@@ -10,7 +10,7 @@ use lib.ListN.{getD}
 use Rattle.meaning.specs.Words.{mostProbes, places}
 use Rattle.meaning.specs.Yard.{isProbe}
 use Rattle.meaning.specs.Sheet.{probeCount}
-use Rattle.meaning.specs.Conflict.{entry, conflictTable, degree}
+use Rattle.meaning.specs.Conflict.{entry, conflictTable, degree, largestDegree}
 use Rattle.meaning.specs.Colour.{coloursUsed, probeColours}
 use Rattle.meaning.specs.Answer.{isAccepted, sheetTest}
 use Rattle.laws.proofs.Walk.{not-both, probe-yes, probe-least, probe-most}
@@ -34,12 +34,12 @@ module _ (s : List ℕ) (ok : isAccepted (sheetTest s) ≡ true) where
       allowed v = degree (entry (conflictTable s)) v + 1
 
   -- so one more than the largest degree is enough
-  pub colours-degree : coloursUsed (probeColours s) ≤ mostProbes (probeCount s) (degree (entry (conflictTable s))) + 1
+  pub colours-degree : coloursUsed (probeColours s) ≤ largestDegree s + 1
   colours-degree =
       omega (
         arith,
         colours-most,
-        most-over (probeCount s) (λ v. degree (entry (conflictTable s)) v + 1) (mostProbes (probeCount s) (degree (entry (conflictTable s))) + 1)
+        most-over (probeCount s) (λ v. degree (entry (conflictTable s)) v + 1) (largestDegree s + 1)
             (λ v h. omega (arith, over-most (probeCount s) (degree (entry (conflictTable s))) v h)),
       )
 

@@ -5,20 +5,23 @@ use mathlib.Core.Bool.{Bool, true, false, _||_}
 use mathlib.Core.List.{List}
 use mathlib.Core.Logic.{_⊎_, inl, inr}
 use Prim.Native.Nat.{ℕ, _+_, _*_, _≤_}
+use native.Mathlib.Nat.{zero-mul}
 use native.Mathlib.Omega.{arith}
 use lib.Dec.{eqb}
 use borrow.Author.Tests.{eqb-true, ne-eqb}
-use Rattle.meaning.specs.Yard.{isProbe, branchPackets}
-use Rattle.meaning.specs.Sheet.{probeCount, parentOf, packetsOf, allPackets}
+use Rattle.meaning.specs.Yard.{isProbe, branchPackets, hearsAndSends}
+use Rattle.meaning.specs.Sheet.{probeCount, parentOf, packetsOf, levelOf, hops, allPackets, leastSlots}
 use Rattle.meaning.specs.Answer.{isAccepted, sheetTest}
 use Rattle.meaning.specs.Judge.{judge}
 use Rattle.meaning.specs.Legal.{clash}
+use Rattle.laws.proofs.Turns.{in-sum}
 use Rattle.laws.proofs.Walk.{probe-yes}
 use Rattle.laws.proofs.Accepted.{accepted-yard}
 use Rattle.limits.specs.Sent.{inflow, sent}
-use Rattle.limits.proofs.Sums.{together, together-itself, together-either}
+use Rattle.limits.proofs.Sums.{sum-zero, together, together-itself, together-either}
 use Rattle.limits.proofs.Sending.{inflow-same}
 use Rattle.limits.proofs.Branch.{branch-own, branch-all}
+use Rattle.limits.proofs.Lag.{most-over}
 use Rattle.limits.proofs.PlanRuns.{slotsOfPlan, passed-ran}
 use Rattle.limits.proofs.SentByBranch.{sent-by-branch}
 use Rattle.limits.proofs.Exclusive.{Exclusive, exclusive-slots}
@@ -100,3 +103,23 @@ slots-least-branch s plan h t ht =
       family-parts s ok t ht (sent (slotsOfPlan plan)),
       exclusive-slots s plan h (family s ok t) (family-exclusive s ok t ht),
     )
+
+-- both limits together: no plan that the judge passes has fewer slots
+pub slots-least-any : (s plan : List ℕ) → isAccepted (judge s plan .outcome) ≡ true → leastSlots s ≤ judge s plan .slots
+unfolding allPackets leastSlots
+slots-least-any s plan h =
+    omega (
+      arith,
+      slots-least s plan h,
+      most-over (probeCount s) (hearsAndSends (probeCount s) (parentOf s) (packetsOf s)) (judge s plan .slots)
+          (λ t ht. omega (arith, slots-least-branch s plan h t ht)),
+    )
+
+-- where it is 0 nobody has a packet, so that there is no hop
+pub no-hops : (s : List ℕ) → leastSlots s ≡ 0 → hops s ≡ 0
+unfolding leastSlots hops
+no-hops s none =
+    sum-zero (probeCount s) (λ k. packetsOf s (k + 2) * levelOf s (k + 2))
+    (λ k hk.
+    let own : packetsOf s (k + 2) ≡ 0 = omega (arith, in-sum (probeCount s) (λ j. packetsOf s (j + 2)) k hk) in
+    ap (λ (n : ℕ). n * levelOf s (k + 2)) own ∙ zero-mul (levelOf s (k + 2)))

@@ -14,6 +14,7 @@ pub mod Fewest
 pub mod Serving
 pub mod MostByProbe
 pub mod ColoursFew
+pub mod NoProbes
 pub mod RoundBeatsSlot
 pub mod LevelLine
 pub mod OneLevel

@@ -8,10 +8,10 @@ use native.Mathlib.Nat.{le-refl, mul-le-mul}
 use native.Mathlib.Omega.{arith}
 use lib.ListN.{length, take}
 use lib.Seq.{take-all}
-use Rattle.meaning.specs.Words.{mostProbes, places}
+use Rattle.meaning.specs.Words.{places}
 use Rattle.meaning.specs.Yard.{isProbe}
 use Rattle.meaning.specs.Sheet.{probeCount, parentOf, packetsOf}
-use Rattle.meaning.specs.Conflict.{entry, conflictTable, degree}
+use Rattle.meaning.specs.Conflict.{largestDegree}
 use Rattle.meaning.specs.Colour.{coloursUsed, probeColours}
 use Rattle.meaning.specs.Rounds.{byProbe, slotsOf}
 use Rattle.meaning.specs.Answer.{isAccepted, sheetTest}
@@ -63,7 +63,7 @@ by-probe-any s plan h =
 
 -- so at most one more than the largest degree times them
 pub by-probe-degree : (s plan : List ℕ) → isAccepted (judge s plan .outcome) ≡ true
-    → length (slotsOf s (byProbe s)) ≤ (mostProbes (probeCount s) (degree (entry (conflictTable s))) + 1) * judge s plan .slots
+    → length (slotsOf s (byProbe s)) ≤ (largestDegree s + 1) * judge s plan .slots
 by-probe-degree s plan h =
     let few = colours-degree s (passed-ran s plan h .sheet) in
     omega (arith, by-probe-any s plan h, mul-le-mul few (le-refl (judge s plan .slots)))

@@ -77,6 +77,10 @@ heaviest-branch : length (text " heaviest") ≡ 9
 unfolding text
 heaviest-branch = refl
 
+least-slots : length (text " least") ≡ 6
+unfolding text
+least-slots = refl
+
 pub said-length : (word : String) (n : ℕ) → length (said word n) ≡ length (text word) + 1 + length (decimal 5 n)
 said-length word n =
     let words = length-append (text word) (text " ") ∙ ap (λ (k : ℕ). length (text word) + k) space in
@@ -90,11 +94,12 @@ refusal-length number place =
     length-append (said "refused" number ++ said "" place) (text "\n")
     ∙ (omega (arith, length-append (said "refused" number) (said "" place), said-length "refused" number, sender-length place, refused, newline))
 
-pub numbers-length : (a b c d : ℕ) → length (numbersLine a b c d) ≡ 35 + (length (decimal 5 a) + length (decimal 5 b)) + (length (decimal 5 c) + length (decimal 5 d))
+pub numbers-length : (a b c d e : ℕ) → length (numbersLine a b c d e)
+    ≡ 42 + (length (decimal 5 a) + length (decimal 5 b)) + (length (decimal 5 c) + length (decimal 5 d)) + length (decimal 5 e)
 unfolding numbersLine
-numbers-length a b c d =
-    length-append (said "colours" a ++ said " slots" b ++ said " packets" c ++ said " heaviest" d) (text "\n")
-    ∙ (omega (arith, length-append (said "colours" a ++ said " slots" b ++ said " packets" c) (said " heaviest" d), length-append (said "colours" a ++ said " slots" b) (said " packets" c), length-append (said "colours" a) (said " slots" b), said-length "colours" a, said-length " slots" b, said-length " packets" c, said-length " heaviest" d, colours, slots, packets, heaviest-branch, newline))
+numbers-length a b c d e =
+    length-append (said "colours" a ++ said " slots" b ++ said " packets" c ++ said " heaviest" d ++ said " least" e) (text "\n")
+    ∙ (omega (arith, length-append (said "colours" a ++ said " slots" b ++ said " packets" c ++ said " heaviest" d) (said " least" e), length-append (said "colours" a ++ said " slots" b ++ said " packets" c) (said " heaviest" d), length-append (said "colours" a ++ said " slots" b) (said " packets" c), length-append (said "colours" a) (said " slots" b), said-length "colours" a, said-length " slots" b, said-length " packets" c, said-length " heaviest" d, said-length " least" e, colours, slots, packets, heaviest-branch, least-slots, newline))
 
 pub slot-length : (number : ℕ) (senders : List ℕ) → length (slotLine number senders) ≡ 2 + length (decimal 5 number) + length (sendersText senders)
 unfolding slotLine
@@ -110,9 +115,9 @@ module _ (number place d e long : ℕ) (count-number : d ≡ length (decimal 5 n
   pub refusal-room : 10 + d + e ≤ long → length (said "refused" number ++ said "" place ++ text "\n") ≤ long
   refusal-room h = omega (arith, refusal-length number place)
 
-module _ (a b c d k l m n long : ℕ) (count-a : k ≡ length (decimal 5 a)) (count-b : l ≡ length (decimal 5 b)) (count-c : m ≡ length (decimal 5 c)) (count-d : n ≡ length (decimal 5 d)) where
-  pub numbers-short : long < 35 + (k + l) + (m + n) → long < length (numbersLine a b c d)
-  numbers-short h = omega (arith, numbers-length a b c d)
+module _ (a b c d e k l m n o long : ℕ) (count-a : k ≡ length (decimal 5 a)) (count-b : l ≡ length (decimal 5 b)) (count-c : m ≡ length (decimal 5 c)) (count-d : n ≡ length (decimal 5 d)) (count-e : o ≡ length (decimal 5 e)) where
+  pub numbers-short : long < 42 + (k + l) + (m + n) + o → long < length (numbersLine a b c d e)
+  numbers-short h = omega (arith, numbers-length a b c d e)
 
-  pub numbers-room : 35 + (k + l) + (m + n) ≤ long → length (numbersLine a b c d) ≤ long
-  numbers-room h = omega (arith, numbers-length a b c d)
+  pub numbers-room : 42 + (k + l) + (m + n) + o ≤ long → length (numbersLine a b c d e) ≤ long
+  numbers-room h = omega (arith, numbers-length a b c d e)

@@ -122,21 +122,30 @@ pub fn refusal_line(outcome: Outcome, out: &mut [u8]) -> usize
     put_text(b"\n", out, next)
 }
 
-// Line one: the colours, the slots, all packets and those of the heaviest branch.
-pub fn numbers_line(colours: u8, slots: u16, packets: u16, heaviest: u16, out: &mut [u8]) -> usize
-    ensures answer { λ r. ⌜ r ≡ lineLength (now (out .entry)) (numbersLine colours slots packets heaviest) ⌝ }
-    ensures buffer { λ _. ⌜ now (out .exit) ≡ lineIn (now (out .entry)) (numbersLine colours slots packets heaviest) ⌝ }
+// Line one: the colours, the slots, all packets, those of the heaviest branch, and the fewest slots of any plan.
+pub fn numbers_line(
+    colours: u8,
+    slots: u16,
+    packets: u16,
+    heaviest: u16,
+    least: u16,
+    out: &mut [u8],
+) -> usize
+    ensures answer { λ r. ⌜ r ≡ lineLength (now (out .entry)) (numbersLine colours slots packets heaviest least) ⌝ }
+    ensures buffer { λ _. ⌜ now (out .exit) ≡ lineIn (now (out .entry)) (numbersLine colours slots packets heaviest least) ⌝ }
 {
     let few = digits(5, colours as u64) as usize + digits(5, slots as u64) as usize;
     let more = digits(5, packets as u64) as usize + digits(5, heaviest as u64) as usize;
-    if out.len() < 35 + few + more {
+    let last = digits(5, least as u64) as usize;
+    if out.len() < 42 + few + more + last {
         return 0;
     }
     let a = put_said(b"colours ", colours as u16, out, 0);
     let b = put_said(b" slots ", slots, out, a);
     let d = put_said(b" packets ", packets, out, b);
     let e = put_said(b" heaviest ", heaviest, out, d);
-    put_text(b"\n", out, e)
+    let end = put_said(b" least ", least, out, e);
+    put_text(b"\n", out, end)
 }
 
 // Whether a slot's line has room.

@@ -10,7 +10,7 @@ use borrow.Rule.Slice.PartMut.{putMid}
 use lib.ListN.{length, take, drop, length-append, length-drop}
 use lib.Seq.{length-take-le}
 use Rattle.meaning.specs.declared.Planned.{Planned}
-use Rattle.meaning.specs.Sheet.{hops, allPackets, heaviest}
+use Rattle.meaning.specs.Sheet.{hops, allPackets, heaviest, leastSlots}
 use Rattle.meaning.specs.Plan.{anyPlan, front, slotsFrom, roomFor}
 use Rattle.meaning.specs.Rounds.{byProbe, slotsOf}
 use Rattle.meaning.specs.Answer.{isAccepted, sheetTest, planTest, PlanMade, planMade}
@@ -112,14 +112,14 @@ module _ (s : List ℕ) (buf : List ℕ) (long : length buf ≡ anyPlan) (planne
 
       module _ (out : List ℕ) (room : anyText ≤ length out) (head : ℕ) (out₁ : List ℕ) where
         abbrev line : List ℕ
-        line = numbersLine (planned .colours) (planned .slots) (allPackets s) (heaviest s)
+        line = numbersLine (planned .colours) (planned .slots) (allPackets s) (heaviest s) (leastSlots s)
 
         abbrev lines : List ℕ
         lines = slotLines 0 (slotsFrom buf′ 2 (planned .slots))
 
         module _ (answer : head ≡ lineLength out line) (buffer : out₁ ≡ lineIn out line) where
-          short : length line ≤ 55
-          short = first-most (planned .colours) (planned .slots) (allPackets s) (heaviest s)
+          short : length line ≤ 67
+          short = first-most (planned .colours) (planned .slots) (allPackets s) (heaviest s) (leastSlots s)
 
           written : (lineLength out line ≡ length line) × (lineIn out line ≡ front out line)
           written = line-whole out line (omega (arith, room, short))

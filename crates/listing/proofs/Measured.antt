@@ -54,8 +54,8 @@ slots-most s ok (slot ∷ slots) held done runs =
     )
 
 -- line one, and a refusal's
-pub first-most : (a b c d : ℕ) → length (numbersLine a b c d) ≤ 55
-first-most a b c d = omega (arith, numbers-length a b c d, digits-most 5 a, digits-most 5 b, digits-most 5 c, digits-most 5 d)
+pub first-most : (a b c d e : ℕ) → length (numbersLine a b c d e) ≤ 67
+first-most a b c d e = omega (arith, numbers-length a b c d e, digits-most 5 a, digits-most 5 b, digits-most 5 c, digits-most 5 d, digits-most 5 e)
 
 pub refusal-most : (number place : ℕ) → length (said "refused" number ++ said "" place ++ text "\n") ≤ 20
 refusal-most number place = omega (arith, refusal-length number place, digits-most 5 number, digits-most 5 place)

@@ -3,7 +3,7 @@ ghost use mathlib.Core.Path.{_≡_};
 ghost use mathlib.Core.Bool.{true};
 ghost use Prim.Native.Nat.{_≤_};
 ghost use lib.ListN.{length, take};
-ghost use Rattle.meaning.specs.Sheet.{allPackets, heaviest};
+ghost use Rattle.meaning.specs.Sheet.{allPackets, heaviest, leastSlots};
 ghost use Rattle.meaning.specs.Plan.{slotsFrom, front};
 ghost use Rattle.meaning.specs.Answer.{isAccepted, sheetTest};
 ghost use Rattle.meaning.specs.Lister.{slotLines, numbersLine};
@@ -33,9 +33,9 @@ fn slot_lines(plan: &[u8], slots: u16, out: &mut [u8]) -> usize
 fn first(sheet: &[u8], colours: u8, slots: u16, out: &mut [u8]) -> usize
     requires { ⌜ isAccepted (sheetTest (now sheet)) ≡ true ⌝ }
     ensures answer { λ r. ⌜ r
-        ≡ lineLength (now (out .entry)) (numbersLine colours slots (allPackets (now (sheet .entry))) (heaviest (now (sheet .entry)))) ⌝ }
+        ≡ lineLength (now (out .entry)) (numbersLine colours slots (allPackets (now (sheet .entry))) (heaviest (now (sheet .entry))) (leastSlots (now (sheet .entry)))) ⌝ }
     ensures buffer { λ _. ⌜ now (out .exit)
-        ≡ lineIn (now (out .entry)) (numbersLine colours slots (allPackets (now (sheet .entry))) (heaviest (now (sheet .entry)))) ⌝ }
+        ≡ lineIn (now (out .entry)) (numbersLine colours slots (allPackets (now (sheet .entry))) (heaviest (now (sheet .entry))) (leastSlots (now (sheet .entry)))) ⌝ }
 {
     let tree = sheet::read(sheet);
     let p = tree.probes;
@@ -43,7 +43,8 @@ fn first(sheet: &[u8], colours: u8, slots: u16, out: &mut [u8]) -> usize
     let packets = tree.packets;
     let all = branch::all_packets(p, &packets);
     let most = branch::heaviest(p, parents, packets);
-    lines::numbers_line(colours, slots, all, most, out)
+    let least = branch::least_slots(p, parents, packets);
+    lines::numbers_line(colours, slots, all, most, least, out)
 }
 
 // The whole text for a sheet, at the start of a lent buffer that has room for any; says how many bytes it has.

@@ -16,15 +16,15 @@ use Rattle.meaning.specs.declared.Tested.{Tested}
 use Rattle.meaning.specs.declared.Judgement.{Judgement}
 use Rattle.meaning.specs.Words.{Bytes, forEach, some, least, sum, most, tab, places, probesThat}
 use Rattle.meaning.specs.Yard.{reaches, climb, climbed, lagOn}
-use Rattle.meaning.specs.Sheet.{twoAt, probeCount, parentOf, packetsOf, levelOf, hops, allPackets, heaviest, longest, slowest, interfere}
+use Rattle.meaning.specs.Sheet.{twoAt, probeCount, parentOf, packetsOf, levelOf, hops, allPackets, heaviest, longest, slowest, leastSlots, interfere}
 use Rattle.meaning.specs.Plan.{twoBytes, slotBytes, slotsFrom, roomFor, front}
-use Rattle.meaning.specs.Conflict.{disturb, conflict, tableOf, entry, conflictTable}
+use Rattle.meaning.specs.Conflict.{disturb, conflict, tableOf, entry, conflictTable, largestDegree}
 use Rattle.meaning.specs.Colour.{smallestFree, nextOf, colouredBy, probeColours, levelsConflict, levels, depth, levelColours}
 use Rattle.meaning.specs.Rounds.{Way, joined, ownersByProbe, ownersByLevel, slotOf, turnOf, moved, heldAfter, recorded, round, rounds, byProbe, byLevel, slotsOf}
 use Rattle.meaning.specs.Answer.{accepted, _then_, inOrder, probeTest, walkTest, pairTest, countsTest, sheetTest, planTest, planMade}
 use Rattle.meaning.specs.Judge.{Judging, slotTest, twoNames, slotNames, slotTested, slotJudged, slotsJudged, planJudgedBy, planJudged, judge, planNamesBy, planNames, judgement, choice, handedBack}
 use Rattle.meaning.specs.Lister.{text, decimal, numbersLine, sendersText, refusalLine, slotLine, slotLines, list, listing}
-use Rattle.meaning.specs.Telephone.{asked}
+use Rattle.meaning.specs.Telephone.{timesAny, asked}
 
 -- a sheet, a plan or a buffer as RULES writes it: two digits a byte, one space between
 digit : ℕ → ℕ
@@ -52,8 +52,8 @@ many (suc k) piece rest = before piece (many k piece rest)
 -- with, `level-conflicts` the same of levels. A planner's row gives the length of the buffer lent, whose bytes are all `ee`; then number, place, colours, slots and bytes written; then
 -- the whole buffer afterwards. A judge's row gives the plan; then number, place and slots; `named` gives both names too; `slot-tested` gives the senders of
 -- slot 7, sent first; then number, place and both names; `holding` gives a plan, and what the nodes from 0 on hold after its slots. A row of branches gives the
--- heaviest, the longest and the slowest; the telephone's number and place, then the slots at least, in our plan, and at most. A plan's slots, a count's bytes,
--- and a number's and a slot's text stand by themselves
+-- heaviest, the longest and the slowest; then come the fewest slots of any plan and the largest degree; the telephone's number and place, then the slots at least, in our plan, and at
+-- most, and how many times anybody's ours is; the last also of colours, our slots and the fewest. A plan's slots, a count's bytes, and a number's and a slot's text stand by themselves
 pub data Row : Type 0 where
   tested : String → ℕ → ℕ → Row
   room : String → ℕ → Row
@@ -70,12 +70,15 @@ pub data Row : Type 0 where
   chosen : String → String → String → String → Row
   listed : String → String → Row
   branches : String → List ℕ → Row
+  how-often : ℕ → ℕ → ℕ → ℕ → Row
+  fewest : String → ℕ → Row
+  most-conflicts : String → ℕ → Row
   asked-for : String → List ℕ → Row
   count-bytes : ℕ → String → Row
   slots-read : String → List (List ℕ) → Row
   number-text : ℕ → String → Row
   refusal-text : ℕ → ℕ → String → Row
-  numbers-text : ℕ → ℕ → ℕ → ℕ → String → Row
+  numbers-text : ℕ → ℕ → ℕ → ℕ → ℕ → String → Row
   slot-text : ℕ → List ℕ → String → Row
 
 planner : (Bytes → Way) → Bytes → ℕ → Bytes
@@ -91,7 +94,7 @@ names : Names → List ℕ
 names r = r .first ∷ r .second ∷ []
 
 told : Told → List ℕ
-told r = r .outcome .number ∷ r .outcome .place ∷ r .least ∷ r .ours ∷ r .most ∷ []
+told r = r .outcome .number ∷ r .outcome .place ∷ r .least ∷ r .ours ∷ r .most ∷ r .times ∷ []
 
 same : List ℕ → List ℕ → Bool
 same [] [] = true
@@ -160,12 +163,15 @@ true-row (holding sheet plan packets) = same (take (probeCount s + 2) (slotsJudg
 true-row (chosen sheet a b handed) = same (handedBack (choice (hex sheet) (hex a) (hex b)) (hex a) (hex b)) (hex handed)
 true-row (listed sheet printed) = same (listing (hex sheet)) (text printed)
 true-row (branches sheet numbers) = same (heaviest (hex sheet) ∷ longest (hex sheet) ∷ slowest (hex sheet) ∷ []) numbers
+true-row (how-often colours ours least-slots times) = eqb (timesAny colours ours least-slots) times
+true-row (fewest sheet slots) = eqb (leastSlots (hex sheet)) slots
+true-row (most-conflicts sheet probes) = eqb (largestDegree (hex sheet)) probes
 true-row (asked-for sheet numbers) = same (told (asked (hex sheet))) numbers
 true-row (count-bytes number written) = same (twoBytes number) (hex written)
 true-row (slots-read plan slots) = alike (slotsFrom (hex plan) 2 (twoAt (hex plan) 0)) slots
 true-row (number-text number printed) = same (decimal 5 number) (text printed)
 true-row (refusal-text number place printed) = same (refusalLine (record { number = number; place = place })) (text printed)
-true-row (numbers-text colours slots packets most printed) = same (numbersLine colours slots packets most) (text printed)
+true-row (numbers-text colours slots packets most least-slots printed) = same (numbersLine colours slots packets most least-slots) (text printed)
 true-row (slot-text number slot printed) = same (slotLine number slot) (text printed)
 
 pub all-true : List Row → Bool
@@ -382,7 +388,7 @@ yards =
     ∷ number-text 30240 "30240"
     ∷ number-text 65535 "65535"
     ∷ refusal-text 8 2016 "refused 8 2016\n"
-    ∷ numbers-text 63 30240 945 105 "colours 63 slots 30240 packets 945 heaviest 105\n"
+    ∷ numbers-text 63 30240 945 105 1875 "colours 63 slots 30240 packets 945 heaviest 105 least 1875\n"
     ∷ slot-text 120 (9 ∷ 10 ∷ 64 ∷ []) "120: 9 10 64\n"
     -- colours by probe: falling degree, ties by lower number, the smallest that is free
     ∷ probe-colours A (1 ∷ 2 ∷ 2 ∷ [])
@@ -405,23 +411,44 @@ yards =
     ∷ plan-by-probe "04 01 00 01 01 02 01 03 01 00 00" 12 (0 ∷ 0 ∷ 2 ∷ 4 ∷ 11 ∷ []) "00 04 02 04 05 01 03 01 02 01 03 ee"
     ∷ plan-by-level "00 00 00" 1 (9 ∷ 0 ∷ 0 ∷ 0 ∷ 0 ∷ []) "ee"
     -- the telephone: at most is the smaller of colours × slowest branch and hops: in the arms 6 and not 9, in the star of 1, 1 and 15 packets 17 and not 45
-    ∷ asked-for ring (6 ∷ 2 ∷ 0 ∷ 0 ∷ 0 ∷ [])
-    ∷ asked-for "00 00 00" (0 ∷ 0 ∷ 0 ∷ 0 ∷ 0 ∷ [])
-    ∷ asked-for A (0 ∷ 0 ∷ 3 ∷ 3 ∷ 4 ∷ [])
-    ∷ asked-for chain (0 ∷ 0 ∷ 3 ∷ 6 ∷ 6 ∷ [])
-    ∷ asked-for (arms "00 00") (0 ∷ 0 ∷ 6 ∷ 6 ∷ 6 ∷ [])
-    ∷ asked-for "03 01 01 01 01 01 0f 00 00" (0 ∷ 0 ∷ 17 ∷ 17 ∷ 17 ∷ [])
+    ∷ asked-for ring (6 ∷ 2 ∷ 0 ∷ 0 ∷ 0 ∷ 0 ∷ [])
+    ∷ asked-for "00 00 00" (0 ∷ 0 ∷ 0 ∷ 0 ∷ 0 ∷ 0 ∷ [])
+    ∷ asked-for A (0 ∷ 0 ∷ 3 ∷ 3 ∷ 4 ∷ 1 ∷ [])
+    ∷ asked-for chain (0 ∷ 0 ∷ 5 ∷ 6 ∷ 6 ∷ 2 ∷ [])
+    ∷ asked-for (arms "00 00") (0 ∷ 0 ∷ 6 ∷ 6 ∷ 6 ∷ 1 ∷ [])
+    ∷ asked-for "03 01 01 01 01 01 0f 00 00" (0 ∷ 0 ∷ 17 ∷ 17 ∷ 17 ∷ 1 ∷ [])
     -- the packets of the heaviest branch, packets and levels below of the longest, packets and lag of the slowest
     ∷ branches "00 00 00" (0 ∷ 0 ∷ 0 ∷ [])
     ∷ branches A (2 ∷ 3 ∷ 2 ∷ [])
     ∷ branches below-relays (1 ∷ 4 ∷ 4 ∷ [])
     ∷ branches "03 01 01 02 00 03 02 00 00" (3 ∷ 5 ∷ 4 ∷ [])
+    -- how many times, rounded up; the colours where they are fewer: a packet below six relays has three, 7 slots, and at least 2; nothing sent is 0 times
+    ∷ how-often 3 7 2 3
+    ∷ how-often 5 7 2 4
+    ∷ how-often 5 8 2 4
+    ∷ how-often 5 2 2 1
+    ∷ how-often 1 0 0 0
+    -- the fewest slots of any plan: all packets where no branch wants more, or what the busiest probe hears and sends: in the chain 5 and not 3; a lone branch
+    -- whose packets are its top's own; two branches, of which the heavier wants 8 and all packets are 9; a relay hears and sends
+    ∷ fewest "00 00 00" 0
+    ∷ fewest A 3
+    ∷ fewest chain 5
+    ∷ fewest "01 01 0f 00 00" 15
+    ∷ fewest "04 01 02 02 02 02 01 01 04 00 00" 9
+    ∷ fewest "02 01 00 02 03 00 00" 6
+    ∷ fewest "03 01 01 02 00 03 02 00 00" 5
+    ∷ fewest mixed 20
+    -- the largest degree; with no probes it is 0, and of a lone probe too
+    ∷ most-conflicts "00 00 00" 0
+    ∷ most-conflicts "01 01 0f 00 00" 0
+    ∷ most-conflicts A 2
+    ∷ most-conflicts five 4
     -- relays: none that never receives sends; a lone packet below three of them, above colours × packets; two with two packets below, where the lag is 1
-    ∷ asked-for "01 01 00 00 00" (0 ∷ 0 ∷ 0 ∷ 0 ∷ 0 ∷ [])
-    ∷ asked-for below-relays (0 ∷ 0 ∷ 1 ∷ 4 ∷ 4 ∷ [])
-    ∷ asked-for "04 01 00 02 02 01 00 04 02 00 00" (0 ∷ 0 ∷ 4 ∷ 5 ∷ 6 ∷ [])
-    ∷ asked-for "04 01 00 01 01 02 01 03 01 00 00" (0 ∷ 0 ∷ 3 ∷ 4 ∷ 4 ∷ [])
-    ∷ asked-for "06 01 00 02 02 03 00 04 00 05 03 06 01 00 00" (0 ∷ 0 ∷ 6 ∷ 18 ∷ 24 ∷ [])
+    ∷ asked-for "01 01 00 00 00" (0 ∷ 0 ∷ 0 ∷ 0 ∷ 0 ∷ 0 ∷ [])
+    ∷ asked-for below-relays (0 ∷ 0 ∷ 2 ∷ 4 ∷ 4 ∷ 2 ∷ [])
+    ∷ asked-for "04 01 00 02 02 01 00 04 02 00 00" (0 ∷ 0 ∷ 4 ∷ 5 ∷ 6 ∷ 2 ∷ [])
+    ∷ asked-for "04 01 00 01 01 02 01 03 01 00 00" (0 ∷ 0 ∷ 3 ∷ 4 ∷ 4 ∷ 2 ∷ [])
+    ∷ asked-for "06 01 00 02 02 03 00 04 00 05 03 06 01 00 00" (0 ∷ 0 ∷ 12 ∷ 18 ∷ 24 ∷ 2 ∷ [])
     -- A, by probe and by level; 9 is one byte less than its room
     ∷ plan-by-probe A 10 (0 ∷ 0 ∷ 2 ∷ 3 ∷ 9 ∷ []) "00 03 01 02 02 03 04 01 02 ee"
     ∷ plan-by-probe A 9 (9 ∷ 0 ∷ 0 ∷ 0 ∷ 0 ∷ []) "ee ee ee ee ee ee ee ee ee"
@@ -447,18 +474,18 @@ yards =
     ∷ plan-by-level five 32 (0 ∷ 0 ∷ 3 ∷ 12 ∷ 29 ∷ []) "00 0c 01 04 02 03 06 02 02 05 01 04 01 03 02 02 05 01 04 01 03 01 02 01 03 01 02 01 02 ee ee ee"
     ∷ plan-by-level "04 01 01 01 01 01 01 02 01 00 00" 12 (0 ∷ 0 ∷ 2 ∷ 4 ∷ 11 ∷ []) "00 04 01 02 02 03 05 01 02 01 04 ee"
     -- the lister, whole
-    ∷ listed A "colours 2 slots 3 packets 3 heaviest 2\n1: 2\n2: 3 4\n3: 2\n"
-    ∷ listed "00 00 00" "colours 0 slots 0 packets 0 heaviest 0\n"
+    ∷ listed A "colours 2 slots 3 packets 3 heaviest 2 least 3\n1: 2\n2: 3 4\n3: 2\n"
+    ∷ listed "00 00 00" "colours 0 slots 0 packets 0 heaviest 0 least 0\n"
     ∷ listed ring "refused 6 2\n"
     ∷ listed mixed
-    "colours 3 slots 20 packets 13 heaviest 11\n1: 2 7\n2: 3 5\n3: 4 6\n4: 2\n5: 3 5\n6: 4 6\n7: 2\n8: 3\n9: 4\n10: 2\n11: 3\n12: 4\n13: 2\n14: 3\n15: 2\n16: 2\n17: 2\n18: 2\n19: 2\n20: 2\n"
+    "colours 3 slots 20 packets 13 heaviest 11 least 20\n1: 2 7\n2: 3 5\n3: 4 6\n4: 2\n5: 3 5\n6: 4 6\n7: 2\n8: 3\n9: 4\n10: 2\n11: 3\n12: 4\n13: 2\n14: 3\n15: 2\n16: 2\n17: 2\n18: 2\n19: 2\n20: 2\n"
     ∷ listed (star 12 "0c " "00 01 00 01") "refused 7 1\n"
     ∷ []
 
 -- the one claim: every row is true
 pub proved-yards : T (all-true yards)
 unfolding digit pairs hex many planner verdict names told same alike up says true-row all-true A A-with-a-pair chain turned ring below-relays five arms four-arms mixed star yards
-    forEach some least sum most tab probesThat reaches climb climbed lagOn parentOf packetsOf levelOf hops allPackets heaviest longest slowest interfere slotBytes slotsFrom
+    forEach some least sum most tab probesThat reaches climb climbed lagOn parentOf packetsOf levelOf hops allPackets heaviest longest slowest leastSlots interfere slotBytes slotsFrom
     disturb conflict conflictTable smallestFree nextOf colouredBy probeColours levelsConflict levels depth levelColours
     joined ownersByProbe ownersByLevel slotOf turnOf moved heldAfter recorded round rounds byProbe byLevel slotsOf
     _then_ inOrder probeTest walkTest pairTest countsTest sheetTest planTest planMade

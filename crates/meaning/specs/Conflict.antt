@@ -4,7 +4,7 @@ use mathlib.Core.List.{List, []}
 use Prim.Native.Nat.{ℕ}
 use lib.Dec.{eqb}
 use lib.ListN.{getD}
-use Rattle.meaning.specs.Words.{Bytes, Node, Relation, count, tab, places}
+use Rattle.meaning.specs.Words.{Bytes, Node, Relation, count, mostProbes, tab, places}
 use Rattle.meaning.specs.Yard.{isProbe}
 use Rattle.meaning.specs.Sheet.{probeCount, pairCount, pairRecords, parentOf, interfere}
 
@@ -36,3 +36,7 @@ conflictTable s = tableOf (conflict (probeCount s) (parentOf s) (interfere (pair
 -- "Conflicts": the degree of a probe is its number of conflicting probes; the gateway isn't counted
 abbrev pub degree : Relation → Node → ℕ
 degree relation x = count places (relation x)
+
+-- "Conflicts": the largest degree of a sheet's probes, 0 with no probes
+abbrev pub largestDegree : Bytes → ℕ
+largestDegree s = mostProbes (probeCount s) (degree (entry (conflictTable s)))

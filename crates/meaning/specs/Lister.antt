@@ -9,7 +9,7 @@ use lib.ListN.{take}
 use Rattle.meaning.specs.declared.Outcome.{Outcome}
 use Rattle.meaning.specs.declared.Planned.{Planned}
 use Rattle.meaning.specs.Words.{Bytes, Node, Slots}
-use Rattle.meaning.specs.Sheet.{decidingSheet, allPackets, heaviest}
+use Rattle.meaning.specs.Sheet.{decidingSheet, allPackets, heaviest, leastSlots}
 use Rattle.meaning.specs.Plan.{anyPlan}
 use Rattle.meaning.specs.Rounds.{byProbe, slotsOf}
 use Rattle.meaning.specs.Answer.{isAccepted, planMade}
@@ -28,13 +28,13 @@ decimal (suc more) n = cond (ltb n 10) ((48 + n) ∷ []) (decimal more (n / 10) 
 abbrev pub said : String → ℕ → Bytes
 said word n = text word ++ text " " ++ decimal 5 n
 
--- "The lister": line one has M, the slots, all packets, and the packets of the heaviest branch; of the four numbers, and of a sheet
-unfoldable pub numbersLine : (colours slots packets most : ℕ) → Bytes
-numbersLine colours slots packets most =
-    said "colours" colours ++ said " slots" slots ++ said " packets" packets ++ said " heaviest" most ++ text "\n"
+-- "The lister": line one has M, the slots, all packets, the packets of the heaviest branch, and the fewest slots of any plan; of the five numbers, and of a sheet
+unfoldable pub numbersLine : (colours slots packets most fewest : ℕ) → Bytes
+numbersLine colours slots packets most fewest =
+    said "colours" colours ++ said " slots" slots ++ said " packets" packets ++ said " heaviest" most ++ said " least" fewest ++ text "\n"
 
 abbrev pub firstLine : (s : Bytes) → Planned → Bytes
-firstLine s planned = numbersLine (planned .colours) (planned .slots) (allPackets s) (heaviest s)
+firstLine s planned = numbersLine (planned .colours) (planned .slots) (allPackets s) (heaviest s) (leastSlots s)
 
 -- "The lister": the senders of a slot, each after a space
 unfoldable pub sendersText : (slot : List Node) → Bytes
@@ -57,9 +57,9 @@ refusal outcome = said "refused" (outcome .number) ++ said "" (outcome .place)
 abbrev pub refusalLine : Outcome → Bytes
 refusalLine outcome = refusal outcome ++ text "\n"
 
--- "The lister": room for any text: line one has at most 55 bytes, and ten bytes are enough for each of at most 30,240 hops
+-- "The lister": room for any text: line one has at most 67 bytes, and ten bytes are enough for each of at most 30,240 hops
 abbrev pub anyText : ℕ
-anyText = 302455
+anyText = 302467
 
 -- "The lister": the plan by probe of a sheet, in a buffer with room for any plan
 unfoldable pub list : (s : Bytes) → Bytes

@@ -4,7 +4,7 @@ use Prim.Native.Nat.{ℕ, _+_, _-_, _*_}
 use lib.Dec.{eqb}
 use lib.ListN.{getD, drop}
 use Rattle.meaning.specs.Words.{Bytes, Node, Relation, some, sumProbes}
-use Rattle.meaning.specs.Yard.{isProbe, levelBy, hopsOf, heaviestOf, longestOf, slowestOf}
+use Rattle.meaning.specs.Yard.{isProbe, levelBy, hopsOf, heaviestOf, longestOf, slowestOf, leastSlotsOf}
 
 -- a number of two bytes at a place, high byte first
 abbrev pub twoAt : Bytes → (at : ℕ) → ℕ
@@ -72,6 +72,10 @@ longest s = longestOf (probeCount s) (parentOf s) (packetsOf s)
 
 unfoldable pub slowest : Bytes → ℕ
 slowest s = slowestOf (probeCount s) (parentOf s) (packetsOf s)
+
+-- Demand 3: the fewest slots of any plan for it
+unfoldable pub leastSlots : Bytes → ℕ
+leastSlots s = leastSlotsOf (probeCount s) (parentOf s) (packetsOf s)
 
 -- "The yard sheet in bytes": x and y stand in one of the first q records, either way round
 unfoldable pub interfere : (records : Bytes) → (q : ℕ) → Relation

@@ -1,6 +1,6 @@
--- RULES, "Numbers of the yard": probes, levels, hops; and the packets and the lag of a branch, for demand 3.
+-- RULES, "Numbers of the yard": probes, levels, hops; and, for demand 3, the packets and the lag of a branch and the fewest slots of any plan.
 use mathlib.Core.Bool.{Bool, cond, _&&_, _||_}
-use Prim.Native.Nat.{ℕ, zero, suc, _+_, _-_, _*_}
+use Prim.Native.Nat.{ℕ, zero, suc, _+_, _-_, _*_, max}
 use lib.Dec.{eqb, leb}
 use Rattle.meaning.specs.declared.Walk.{Walk}
 use Rattle.meaning.specs.declared.Walk.the-variants.{Arrives, Never}
@@ -60,3 +60,11 @@ branchLag p parent packets top = mostProbes p (λ v. cond (reaches parent top p 
 -- Demand 3: the packets and the lag of the slowest branch, 0 with no probes
 abbrev pub slowestOf : (p : ℕ) → (parent : Node → Node) → (packets : Node → ℕ) → ℕ
 slowestOf p parent packets = mostProbes p (λ top. branchPackets p parent packets top + branchLag p parent packets top)
+
+-- Demand 3: a probe hears every packet from below once and sends every packet of its branch once, in slots of their own: twice the packets of its branch less its own
+abbrev pub hearsAndSends : (p : ℕ) → (parent : Node → Node) → (packets : Node → ℕ) → (top : Node) → ℕ
+hearsAndSends p parent packets top = 2 * branchPackets p parent packets top - packets top
+
+-- Demand 3: the fewest slots of any plan: the larger of all packets, which the gateway hears, and of the most that a probe hears and sends; 0 with no probes
+abbrev pub leastSlotsOf : (p : ℕ) → (parent : Node → Node) → (packets : Node → ℕ) → ℕ
+leastSlotsOf p parent packets = max (sumProbes p packets) (mostProbes p (hearsAndSends p parent packets))

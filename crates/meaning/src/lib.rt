@@ -12,7 +12,7 @@ pub const ANY_PLAN: usize = 60482;
 pub const DECIDING_PLAN: usize = 96032;
 
 // Room for any listing.
-pub const ANY_TEXT: usize = 302455;
+pub const ANY_TEXT: usize = 302467;
 
 // A node's number: the gateway's, 1, or a probe's.
 pub struct Node(pub u8);
@@ -91,12 +91,13 @@ pub struct Judgement {
     pub names: Names,
 }
 
-// What the telephone answers; the last three are 0 on refusal.
+// What the telephone answers; the last four are 0 on refusal.
 pub struct Told {
     pub outcome: Outcome,
     pub least: u16,
     pub ours: u16,
     pub most: u16,
+    pub times: u8,
 }
 
 // Which of two plans the chooser hands back.

@@ -10,8 +10,10 @@ use lib.Seq.{take-at}
 use Rattle.meaning.specs.declared.Outcome.{Outcome}
 use Rattle.meaning.specs.declared.Planned.{Planned}
 use Rattle.meaning.specs.Words.{Bytes}
-use Rattle.meaning.specs.Sheet.{decidingSheet, hops, heaviest, longest, slowest, allPackets}
+use Rattle.meaning.specs.Yard.{isProbe, hearsAndSends}
+use Rattle.meaning.specs.Sheet.{decidingSheet, probeCount, parentOf, packetsOf, hops, heaviest, longest, slowest, allPackets}
 use Rattle.meaning.specs.Plan.{planBytes, roomFor, front}
+use Rattle.meaning.specs.Conflict.{largestDegree}
 use Rattle.meaning.specs.Colour.{depth}
 use Rattle.meaning.specs.Rounds.{byProbe, byLevel}
 use Rattle.meaning.specs.Answer.{accepted, isAccepted, given, _then_, sheetTest, planTest, refusedPlan, PlanMade, planMade}
@@ -24,8 +26,11 @@ use Rattle.limits.proofs.Deciding.{plan-made-decided}
 use Rattle.limits.proofs.Hops.{hops-limit}
 use Rattle.limits.proofs.MostByProbe.{by-probe-most, by-probe-levels, by-probe-packets}
 use Rattle.limits.proofs.MostByLevel.{by-level-depth, by-level-packets}
+use Rattle.limits.proofs.Fewest.{slots-least-branch}
+use Rattle.limits.proofs.PlanRuns.{passed-ran}
+use Rattle.limits.proofs.RoundBeatsSlot.{by-probe-any, by-probe-degree}
 use Rattle.promises.proofs.Numbers.{sheet-within}
-use Rattle.promises.specs.Answers.{Planner, probe, level, way, slotsBy, answer, after, planOf, Answers, counted, Accepted, Refused, NoRelay, Room, Short}
+use Rattle.promises.specs.Answers.{Planner, probe, level, way, slotsBy, answer, after, planOf, Answers, counted, Accepted, Refused, NoRelay, Room, Short, Passes}
 
 own : (planner : Planner) (s : Bytes) → Accepted s → OwnPlan s (way planner s)
 own probe s ok = by-probe-plan s ok
@@ -133,3 +138,19 @@ module _ (s buffer : Bytes) (ok : Accepted s) (room : Room s buffer) where
   pub by-level-all : NoRelay s → answer level s buffer .slots ≤ answer level s buffer .colours * allPackets s
   unfolding byLevel
   by-level-all none = level-limit s buffer ok room (allPackets s) (by-level-packets s ok none)
+
+-- against any plan that the judge passes, from anyone
+module _ (s buffer plan : Bytes) (room : Room s buffer) (passed : Passes s plan) where
+  accepts : Accepted s
+  accepts = passed-ran s plan passed .sheet
+
+  pub by-probe-theirs : answer probe s buffer .slots ≤ answer probe s buffer .colours * judge s plan .slots
+  unfolding byProbe
+  by-probe-theirs = probe-limit s buffer accepts room (judge s plan .slots) (by-probe-any s plan passed)
+
+  pub by-probe-degrees : answer probe s buffer .slots ≤ (largestDegree s + 1) * judge s plan .slots
+  by-probe-degrees = rw (plans probe s buffer accepts room .0) (by-probe-degree s plan passed)
+
+pub branch-limit : (s plan : Bytes) → Passes s plan → (top : ℕ) → isProbe (probeCount s) top ≡ true
+    → hearsAndSends (probeCount s) (parentOf s) (packetsOf s) top ≤ judge s plan .slots
+branch-limit s plan passed top is = omega (arith, slots-least-branch s plan passed top is)

@@ -3,21 +3,21 @@ use mathlib.Core.Path.{_≡_}
 use mathlib.Core.Bool.{true, cond}
 use mathlib.Core.List.{List, []}
 use Prim.Native.Nat.{ℕ, _+_, _-_, _*_, _≤_, _<_}
-use lib.Dec.{eqb}
+use lib.Dec.{T, eqb}
 use lib.ListN.{length, getD, take}
 use Rattle.meaning.specs.declared.Choice.the-variants.{Neither, First, Second}
 use Rattle.meaning.specs.Words.{Bytes, Node, Relation, some, someProbe, mostProbes}
-use Rattle.meaning.specs.Yard.{branchPackets}
-use Rattle.meaning.specs.Sheet.{decidingSheet, probeCount, parentOf, packetsOf, hops, allPackets, heaviest, longest, slowest}
+use Rattle.meaning.specs.Yard.{isProbe, branchPackets, hearsAndSends}
+use Rattle.meaning.specs.Sheet.{decidingSheet, probeCount, parentOf, packetsOf, hops, allPackets, heaviest, longest, slowest, leastSlots}
 use Rattle.meaning.specs.Plan.{decidingPlan, planBytes, front}
 use Rattle.meaning.specs.Colour.{coloursUsed, probeColours, depth, levelColours}
 use Rattle.meaning.specs.Answer.{accepted, sheetTest, refusedPlan}
 use Rattle.meaning.specs.Judge.{slotTest, slotTested, judge, nobody, judgement, choice, handedBack}
 use Rattle.meaning.specs.Lister.{list, listing}
-use Rattle.meaning.specs.Telephone.{atMost, asked}
+use Rattle.meaning.specs.Telephone.{atMost, timesAny, asked}
 use Rattle.meaning.specs.Legal.{Good}
 use Rattle.meaning.specs.Blame.{Blames, NamesRightly}
-use Rattle.meaning.specs.Conflict.{tableOf, conflictTable}
+use Rattle.meaning.specs.Conflict.{tableOf, conflictTable, largestDegree}
 use Rattle.laws.proofs.Exact.{good-passed}
 use Rattle.laws.proofs.Naming.{slot-blames, slot-without-names}
 use Rattle.laws.proofs.Blame.{without-names, refused-names, names-rightly}
@@ -25,9 +25,12 @@ use Rattle.laws.proofs.Recorded.{no-empty-slot}
 use Rattle.laws.proofs.Used.{probe-colours-used, level-colours-used}
 use Rattle.judge.proofs.Conserved.{packetsAfter, conserved}
 use Rattle.limits.proofs.Deciding.{verdict-decided, judgement-decided, text-decided}
-use Rattle.limits.proofs.Fewest.{slots-least}
+use Rattle.limits.proofs.Fewest.{slots-least, slots-least-branch, slots-least-any}
+use Rattle.limits.proofs.ColoursFew.{colours-degree}
+use Rattle.limits.proofs.NoProbes.{nothing-to-read}
+use Rattle.limits.proofs.Attained.{attains, attained}
 use Rattle.limits.proofs.Tops.{heaviest-at-top}
-use Rattle.telephone.proofs.Limits.{answered, not-answered, least-ours, ours-most, least-any}
+use Rattle.telephone.proofs.Limits.{answered, not-answered, least-ours, ours-most, least-any, ours-times, ours-shortest}
 use Rattle.graph.specs.Part.{newline, marks}
 use Rattle.graph.specs.Table.{noEdges}
 use Rattle.graph.specs.Reading.{graphRead}
@@ -38,7 +41,7 @@ use Rattle.readback.proofs.EdgeSet.{tells-edges}
 use Rattle.promises.specs.Graphs.{Draws, textOf}
 use Rattle.promises.proofs.DrawnGraph.{draws, draws-nothing, draws-short}
 use Rattle.promises.specs.Answers.{Planner, probe, level, way, slotsBy, answer, after, planOf, Answers, counted, Accepted, Refused, NoRelay, Room, Short, Passes, Byte, numbers}
-use Rattle.promises.proofs.Planning.{plans, refuses-sheet, refuses-short, never-ten, own-passes, slots-few, by-probe-limit, by-probe-longest, by-probe-heaviest, by-level-limit, by-level-all, decides}
+use Rattle.promises.proofs.Planning.{plans, refuses-sheet, refuses-short, never-ten, own-passes, slots-few, by-probe-limit, by-probe-longest, by-probe-heaviest, by-level-limit, by-level-all, by-probe-theirs, by-probe-degrees, branch-limit, decides}
 use Rattle.promises.proofs.ChosenPlan.{first-chosen, second-chosen, neither-chosen}
 use Rattle.promises.proofs.Bytes.{bytes-good, plan-bytes-decide, plan-bytes-decide-judgement, choice-decided}
 
@@ -126,16 +129,54 @@ pub by-level-slots-full : (s buffer : Bytes) → Accepted s → Room s buffer �
     → answer level s buffer .slots ≤ answer level s buffer .colours * allPackets s
 by-level-slots-full = by-level-all
 
--- Demand 3: no plan that the judge passes, from anyone, has fewer slots than packets
+-- Demand 3: no plan that the judge passes, from anyone, has fewer slots than packets ..
 pub no-fewer-slots : (s plan : Bytes) → Passes s plan → allPackets s ≤ judge s plan .slots
 no-fewer-slots = slots-least
 
--- Demand 3, on the telephone: every accepted sheet is answered for: all packets, our slots by probe, and the smaller of the two limits on them
+-- .. nor, for any branch, than twice its packets less its top's own ..
+pub no-fewer-slots-branch : (s plan : Bytes) → Passes s plan → (top : Node) → isProbe (probeCount s) top ≡ true
+    → hearsAndSends (probeCount s) (parentOf s) (packetsOf s) top ≤ judge s plan .slots
+no-fewer-slots-branch = branch-limit
+
+-- .. so not than the larger of both, the `least` of the lister's line one
+pub no-fewer-slots-least : (s plan : Bytes) → Passes s plan → leastSlots s ≤ judge s plan .slots
+no-fewer-slots-least = slots-least-any
+
+-- "Colours": M is at most one more than the largest degree
+pub few-colours : (s : Bytes) → Accepted s → coloursUsed (probeColours s) ≤ largestDegree s + 1
+few-colours = colours-degree
+
+-- Demand 3: a plan by probe is at most its colours, and so the largest degree and one, times as long as any plan that the judge passes, from anyone
+pub by-probe-any : (s buffer plan : Bytes) → Room s buffer → Passes s plan
+    → answer probe s buffer .slots ≤ answer probe s buffer .colours * judge s plan .slots
+by-probe-any = by-probe-theirs
+
+pub by-probe-any-degree : (s buffer plan : Bytes) → Room s buffer → Passes s plan
+    → answer probe s buffer .slots ≤ (largestDegree s + 1) * judge s plan .slots
+by-probe-any-degree = by-probe-degrees
+
+-- Demand 3: with no probes the colours, the largest degree, the limits and the hops are 0
+pub no-probes : (s : Bytes) → Accepted s → probeCount s ≡ 0
+    → (coloursUsed (probeColours s) ≡ 0) × (largestDegree s ≡ 0) × (leastSlots s ≡ 0) × (slowest s ≡ 0) × (hops s ≡ 0)
+no-probes s ok none = nothing-to-read s none ok
+
+-- Demand 3: each of these limits is attained by a yard that `Attained.antt` names, computed; so none can be sharpened by one for all yards
+pub limits-attained : T attains
+limits-attained = attained
+
+-- Demand 3, on the telephone: every accepted sheet is answered for: the fewest slots of any plan, ours by probe, the smaller of the two limits on ours, and how many times anybody's
 pub told : (s : Bytes) → Accepted s
-    → asked s ≡ record { outcome = accepted; least = allPackets s; ours = length (slotsBy probe s); most = atMost s (coloursUsed (probeColours s)) }
+    → asked s
+    ≡ record {
+      outcome = accepted;
+      least = leastSlots s;
+      ours = length (slotsBy probe s);
+      most = atMost s (coloursUsed (probeColours s));
+      times = timesAny (coloursUsed (probeColours s)) (length (slotsBy probe s)) (leastSlots s);
+    }
 told = answered
 
-pub not-told : (s : Bytes) → Refused s → asked s ≡ record { outcome = sheetTest s; least = 0; ours = 0; most = 0 }
+pub not-told : (s : Bytes) → Refused s → asked s ≡ record { outcome = sheetTest s; least = 0; ours = 0; most = 0; times = 0 }
 not-told = not-answered
 
 -- Demand 3, on the telephone: at least ≤ ours ≤ at most, and no plan that the judge passes, from anyone, has fewer slots than at least
@@ -144,6 +185,14 @@ told-limits s = (least-ours s, ours-most s)
 
 pub told-least : (s plan : Bytes) → Passes s plan → asked s .least ≤ judge s plan .slots
 told-least = least-any
+
+-- Demand 3, on the telephone: "nobody's plan can be less than a part of ours": ours has at most so many times the slots of any plan that the judge passes ..
+pub told-times : (s plan : Bytes) → Passes s plan → asked s .ours ≤ asked s .times * judge s plan .slots
+told-times = ours-times
+
+-- .. and "nobody's plan is shorter": no more than any, where ours is as long as at least
+pub told-shortest : (s plan : Bytes) → Passes s plan → asked s .ours ≡ asked s .least → asked s .ours ≤ judge s plan .slots
+told-shortest = ours-shortest
 
 -- "The lister": the heaviest branch is one next to the gateway
 pub heaviest-branch : (s : Bytes) → Accepted s

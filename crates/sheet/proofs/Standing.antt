@@ -5,8 +5,8 @@ use mathlib.Core.List.{List}
 use Prim.Native.Nat.{ℕ}
 use lib.ListN.{getD}
 use Rattle.meaning.specs.Words.{tab, places, sumProbes}
-use Rattle.meaning.specs.Yard.{heaviestOf, slowestOf}
-use Rattle.meaning.specs.Sheet.{probeCount, pairCount, pairRecords, parentOf, packetsOf, hops, allPackets, heaviest, slowest, interfere}
+use Rattle.meaning.specs.Yard.{heaviestOf, slowestOf, leastSlotsOf}
+use Rattle.meaning.specs.Sheet.{probeCount, pairCount, pairRecords, parentOf, packetsOf, hops, allPackets, heaviest, slowest, leastSlots, interfere}
 use Rattle.meaning.specs.Conflict.{tableOf, conflict, conflictTable}
 use Rattle.meaning.specs.Colour.{levels}
 use Rattle.meaning.specs.Answer.{isAccepted, sheetTest}
@@ -73,6 +73,11 @@ module _ (s : List ℕ) (ok : isAccepted (sheetTest s) ≡ true) where
     pub slowest-read : slowestOf (tree .probes) (λ v. getD (tree .parents) v 0) (λ v. getD (tree .packets) v 0) ≡ slowest s
     unfolding slowest
     slowest-read = of-tree slowestOf
+
+    -- and the fewest slots of any plan
+    pub least-slots-read : leastSlotsOf (tree .probes) (λ v. getD (tree .parents) v 0) (λ v. getD (tree .packets) v 0) ≡ leastSlots s
+    unfolding leastSlots
+    least-slots-read = of-tree leastSlotsOf
 
     -- "Conflicts": the conflict table that is made of a tree and the sheet's pairs is the sheet's
     pub conflicts-read : (table : List (List Bool))

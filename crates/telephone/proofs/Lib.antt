@@ -1,3 +1,3 @@
--- The telephone's answer. Read Limits for what is promised of it; Answered carries the code.
+-- The telephone's answer. Read Limits for what is promised of it; Telephoned carries the code.
 pub mod Telephoned
 pub mod Limits

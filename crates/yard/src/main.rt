@@ -299,7 +299,7 @@ fn run() -> u8 {
     let what = command_of(&word[..n], os::arg_count());
     match what {
         Command::Help => say_usage(STDOUT_FILENO, ANSWERED),
-        Command::Version => files::say(STDOUT_FILENO, b"yard 2.0\n", ANSWERED),
+        Command::Version => files::say(STDOUT_FILENO, b"yard 3.0\n", ANSWERED),
         Command::Unknown => say_usage(STDERR_FILENO, FAILED),
         _ => {
             if is_dash_twice() {

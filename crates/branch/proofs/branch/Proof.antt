@@ -1,5 +1,5 @@
 -- `branch::branch` meets its contract. The invariant: so far it is the sum over the first k probes, each at most 255; one past the table adds
--- nothing. The measure is what is left of p.
+-- nothing, so that it is never more than 63 of them have. The measure is what is left of p.
 use mathlib.Core.Path.{_≡_, refl, sym, ap₂, _∙_}
 use mathlib.Core.Logic.{⊎-elim}
 use mathlib.Core.Bool.{cond}
@@ -15,14 +15,14 @@ use Rattle.branch.proofs.branch.Statement.{statement}
 use Rattle.branch.proofs.branch.Tie as tie
 
 abbrev Inv-loop : tie.InvT-loop
-Inv-loop p parents packets top all₀ k₀ all k = (k ≤ p) × (all ≡ sum k (λ i. cond (reaches (λ u. getD parents u 0) (top .0) p (i + 2)) (getD packets (i + 2) 0) 0)) × (all ≤ 255 * k)
+Inv-loop p parents packets top all₀ k₀ all k = (k ≤ p) × (all ≡ sum k (λ i. cond (reaches (λ u. getD parents u 0) (top .0) p (i + 2)) (getD packets (i + 2) 0) 0)) × (all ≤ 255 * k) × (all ≤ 255 * 63)
 
 abbrev μ-loop : tie.MeasureT-loop
 μ-loop p parents packets top all₀ k₀ all k = p - k
 
 loop-holds : tie.Need-loop-holds Inv-loop μ-loop
 unfolding sum
-loop-holds c = (omega arith, refl, omega arith)
+loop-holds c = (omega arith, refl, omega arith, omega arith)
 
 add-t9 : tie.Need-add-t9 Inv-loop μ-loop
 add-t9 c = search needs
@@ -46,15 +46,15 @@ loop-again : tie.Need-loop-again Inv-loop μ-loop
 loop-again c =
     let start = c .before .before .before in
     let turn = c .before .before .loop in
-    ⊎-elim (λ w. (omega arith, w .2 ∙ ap₂ _+_ (turn .inv .1) (w .1 .ensures) ∙ sym (sum-one _ _), omega arith))
-    (λ w. (omega arith, w .1 ∙ sum-past (start .args .parents .now) (start .args .packets .now) (start .pre) (start .args .p) (start .args .top .0) (turn .k) _ (w .0 .left) (turn .inv .1), omega arith))
+    ⊎-elim (λ w. (omega arith, w .2 ∙ ap₂ _+_ (turn .inv .1) (w .1 .ensures) ∙ sym (sum-one _ _), omega arith, omega arith))
+    (λ w. (omega arith, w .1 ∙ sum-past (start .args .parents .now) (start .args .packets .now) (start .pre) (start .args .p) (start .args .top .0) (turn .k) _ (w .0 .left) (turn .inv .1), omega arith, omega arith))
     (c .if1 .came)
 
 returns : tie.Need-returns Inv-loop μ-loop
 returns c =
     let done = c .before .loop in
     let full : done .k ≡ c .before .before .args .p = omega arith in
-    (rw full at (done .inv .1), rw full at (done .inv .2))
+    (rw full at (done .inv .1), done .inv .3)
 
 pub branch-spec : {M : Type 1} → statement M
 branch-spec =

@@ -15,10 +15,10 @@ use Rattle.branch.proofs.most_weight.Statement.{statement}
 use Rattle.branch.proofs.most_weight.Tie as tie
 
 abbrev Inv-loop : tie.InvT-loop
-Inv-loop p lags parents packets best₀ k₀ best k = (k ≤ p) × (best ≡ most k (λ i. weightOf lags p (λ u. getD parents u 0) (λ v. getD packets v 0) (i + 2)))
+Inv-loop p what parents packets best₀ k₀ best k = (k ≤ p) × (best ≡ most k (λ i. weightOf what p (λ u. getD parents u 0) (λ v. getD packets v 0) (i + 2)))
 
 abbrev μ-loop : tie.MeasureT-loop
-μ-loop p lags parents packets best₀ k₀ best k = p - k
+μ-loop p what parents packets best₀ k₀ best k = p - k
 
 loop-holds : tie.Need-loop-holds Inv-loop μ-loop
 unfolding most
@@ -46,7 +46,7 @@ loop-again c =
     let long : length (a .t3) ≡ places = search needs in (
       omega arith,
       ⊎-elim (λ w. most-next (turn .k) _ _ _ _ (turn .inv .1) (w .3 .ensures) (w .5 ∙ w .4 .ensures))
-          (λ w. w .1 ∙ most-past (a .t2) (a .t3) long (a .p) (λ v. let byte : Fits w8 (getD (a .t2) v 0) = search needs in byte .fits) (a .lags) (turn .k) _ (w .0 .left) (turn .inv .1))
+          (λ w. w .1 ∙ most-past (a .t2) (a .t3) long (a .p) (λ v. let byte : Fits w8 (getD (a .t2) v 0) = search needs in byte .fits) (a .what) (turn .k) _ (w .0 .left) (turn .inv .1))
           (c .if1 .came),
     )
 

@@ -1,7 +1,8 @@
 -- `lines::numbers_line` meets its contract: the parts of the line are put one behind the other, where the buffer has room for all of them.
 use Rattle.meaning.specs.Lister.{text, numbersLine}
-use Rattle.lines.proofs.Putting.{put-more}
+use Rattle.lines.proofs.Putting.{put-more, put-long}
 use Rattle.lines.proofs.Lined.{line-short, line-put, numbers-short, numbers-room}
+use native.Mathlib.Omega.{arith}
 use borrow.Author.Needs.{needs}
 use Rattle.lines.proofs.numbers_line.Statement.{statement}
 use Rattle.lines.proofs.numbers_line.Tie as tie
@@ -36,17 +37,26 @@ cast-more-2 c = search needs
 add-more : tie.Need-add-more
 add-more c = search needs
 
+digits-requires-5 : tie.Need-digits-requires-5
+digits-requires-5 c κs = search needs
+
+cast-last : tie.Need-cast-last
+cast-last c = search needs
+
 add-if1 : tie.Need-add-if1
 add-if1 c = search needs
 
 add-if1-2 : tie.Need-add-if1-2
 add-if1-2 c = search needs
 
+add-if1-3 : tie.Need-add-if1-3
+add-if1-3 c = search needs
+
 returns : tie.Need-returns
 returns c =
-    let a = c .before .before .before .before .before .before .args in
-    line-short _ (numbersLine (a .colours) (a .slots) (a .packets) (a .heaviest))
-    (numbers-short _ _ _ _ _ _ _ _ _ (c .before .before .before .before .digits .ensures .0) (c .before .before .before .digits2 .ensures .0) (c .before .before .digits3 .ensures .0) (c .before .digits4 .ensures .0) (c .if1 .taken))
+    let a = c .before .before .before .before .before .before .before .args in
+    line-short _ (numbersLine (a .colours) (a .slots) (a .packets) (a .heaviest) (a .least))
+    (numbers-short _ _ _ _ _ _ _ _ _ _ _ (c .before .before .before .before .before .digits .ensures .0) (c .before .before .before .before .digits2 .ensures .0) (c .before .before .before .digits3 .ensures .0) (c .before .before .digits4 .ensures .0) (c .before .digits5 .ensures .0) (c .if1 .taken))
 
 slice-aggregate-put-said : tie.Need-slice-aggregate-put-said
 slice-aggregate-put-said c = search needs
@@ -72,11 +82,25 @@ slice-aggregate-put-said-4 c = search needs
 put-said-requires-4 : tie.Need-put-said-requires-4
 put-said-requires-4 c κs = search needs
 
+slice-aggregate-put-said-5 : tie.Need-slice-aggregate-put-said-5
+slice-aggregate-put-said-5 c = search needs
+
+-- the first parts lie too far back for a search, and so does the test
+put-said-requires-5 : tie.Need-put-said-requires-5
+put-said-requires-5 c κs =
+    let first = c .before .before .before .before .before .before .before .before .before .before .before .before .before .before .before .before .before .before .before .put-said .ensures in
+    let test = c .before .before .before .before .before .before .before .before .before .before .before .before .before .before .before .before .before .before .before .before .before .before in
+    omega (arith, put-long first)
+
 slice-aggregate-put-text : tie.Need-slice-aggregate-put-text
 slice-aggregate-put-text c = search needs
 
 put-text-requires : tie.Need-put-text-requires
-put-text-requires c κs = search needs
+put-text-requires c κs =
+    let first = c .before .before .before .before .before .before .before .before .before .before .before .before .before .before .before .before .before .before .before .before .before .before .before .before .put-said .ensures in
+    let second = c .before .before .before .before .before .before .before .before .before .before .before .before .before .before .before .before .before .before .before .put-said2 .ensures in
+    let test = c .before .before .before .before .before .before .before .before .before .before .before .before .before .before .before .before .before .before .before .before .before .before .before .before .before .before .before in
+    omega (arith, put-long first, put-long second)
 
 same-length : tie.Need-same-length
 same-length c = search needs
@@ -84,15 +108,16 @@ same-length c = search needs
 returns-2 : tie.Need-returns-2
 unfolding text numbersLine
 returns-2 c =
-    let first = c .before .before .before .before .before .before .before .before .before .before .before .before .before .before .before .before .before .before .before .before .before .before .put-said .ensures in
-    let second = c .before .before .before .before .before .before .before .before .before .before .before .before .before .before .before .before .before .put-said2 .ensures in
-    let third = c .before .before .before .before .before .before .before .before .before .before .before .before .put-said3 .ensures in
-    let fourth = c .before .before .before .before .before .before .before .put-said4 .ensures in
+    let first = c .before .before .before .before .before .before .before .before .before .before .before .before .before .before .before .before .before .before .before .before .before .before .before .before .before .before .before .put-said .ensures in
+    let second = c .before .before .before .before .before .before .before .before .before .before .before .before .before .before .before .before .before .before .before .before .before .before .put-said2 .ensures in
+    let third = c .before .before .before .before .before .before .before .before .before .before .before .before .before .before .before .before .before .put-said3 .ensures in
+    let fourth = c .before .before .before .before .before .before .before .before .before .before .before .before .put-said4 .ensures in
+    let fifth = c .before .before .before .before .before .before .before .put-said5 .ensures in
     let last = c .before .before .put-text .ensures in
-    let test = c .before .before .before .before .before .before .before .before .before .before .before .before .before .before .before .before .before .before .before .before .before .before .before .before .before in
+    let test = c .before .before .before .before .before .before .before .before .before .before .before .before .before .before .before .before .before .before .before .before .before .before .before .before .before .before .before .before .before .before in
     line-put
-    (numbers-room _ _ _ _ _ _ _ _ _ (test .before .before .before .before .digits .ensures .0) (test .before .before .before .digits2 .ensures .0) (test .before .before .digits3 .ensures .0) (test .before .digits4 .ensures .0) (test .if1 .left))
-    (put-more (put-more (put-more (put-more first second) third) fourth) last)
+    (numbers-room _ _ _ _ _ _ _ _ _ _ _ (test .before .before .before .before .before .digits .ensures .0) (test .before .before .before .before .digits2 .ensures .0) (test .before .before .before .digits3 .ensures .0) (test .before .before .digits4 .ensures .0) (test .before .digits5 .ensures .0) (test .if1 .left))
+    (put-more (put-more (put-more (put-more (put-more first second) third) fourth) fifth) last)
 
 pub numbers-line-spec : {M : Type 1} → statement M
 numbers-line-spec =
@@ -108,8 +133,11 @@ numbers-line-spec =
     digits-requires-4
     cast-more-2
     add-more
+    digits-requires-5
+    cast-last
     add-if1
     add-if1-2
+    add-if1-3
     returns
     slice-aggregate-put-said
     put-said-requires
@@ -119,6 +147,8 @@ numbers-line-spec =
     put-said-requires-3
     slice-aggregate-put-said-4
     put-said-requires-4
+    slice-aggregate-put-said-5
+    put-said-requires-5
     slice-aggregate-put-text
     put-text-requires
     same-length

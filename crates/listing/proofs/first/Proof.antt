@@ -1,4 +1,4 @@
--- `listing::first` meets its contract: the packets that are counted are those of the sheet.
+-- `listing::first` meets its contract: the packets and the slots that are counted are those of the sheet.
 use Rattle.listing.proofs.Heading.{headed}
 use borrow.Author.Needs.{needs}
 use Rattle.listing.proofs.first.Statement.{statement}
@@ -13,6 +13,9 @@ all-packets-requires c κs = search needs
 heaviest-requires : tie.Need-heaviest-requires
 heaviest-requires c κs = search needs
 
+least-slots-requires : tie.Need-least-slots-requires
+least-slots-requires c κs = search needs
+
 numbers-line-requires : tie.Need-numbers-line-requires
 numbers-line-requires c κs = search needs
 
@@ -21,11 +24,11 @@ same-length c = search needs
 
 returns : tie.Need-returns
 returns c =
-    let start = c .before .before .before .before .before .before .before .before .before .before .before .before in
-    let tree = c .before .before .before .before .before .before .before .before .before .read in
+    let start = c .before .before .before .before .before .before .before .before .before .before .before .before .before in
+    let tree = c .before .before .before .before .before .before .before .before .before .before .read in
     let line = c .before .before .numbers-line in
-    headed (start .args .sheet .now) (start .pre) (tree .result) (tree .ensures) (start .args .colours) (start .args .slots) _ _ (start .args .out .now) _ _
-    (c .before .before .before .before .before .all-packets .ensures) (c .before .before .before .before .heaviest .ensures) (line .ensures .0) (line .ensures .1)
+    headed (start .args .sheet .now) (start .pre) (tree .result) (tree .ensures) (start .args .colours) (start .args .slots) _ _ _ (start .args .out .now) _ _
+    (c .before .before .before .before .before .before .all-packets .ensures) (c .before .before .before .before .before .heaviest .ensures) (c .before .before .before .before .least-slots .ensures) (line .ensures .0) (line .ensures .1)
 
 pub first-spec : {M : Type 1} → statement M
 first-spec =
@@ -34,6 +37,7 @@ first-spec =
     read-requires
     all-packets-requires
     heaviest-requires
+    least-slots-requires
     numbers-line-requires
     same-length
     returns)

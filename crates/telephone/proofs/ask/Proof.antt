@@ -32,8 +32,8 @@ returns c =
 read-requires : tie.Need-read-requires
 read-requires c κs = search needs
 
-all-packets-requires : tie.Need-all-packets-requires
-all-packets-requires c κs = search needs
+least-slots-requires : tie.Need-least-slots-requires
+least-slots-requires c κs = search needs
 
 slowest-requires : tie.Need-slowest-requires
 slowest-requires c κs = search needs
@@ -43,11 +43,14 @@ at-most-requires c κs = search needs
 
 cast-most : tie.Need-cast-most
 cast-most c =
-    let start = c .before .before .before .before .before .before .before .before .before .before .before .before .before .before in
-    let by = c .before .before .before .before .before .before .before .before .before .before .before .by-probe in
-    let passed = c .before .before .before .before .before .before .before .if1 .left in
-    let tree = c .before .before .before .before .before .before .read in
+    let start = c .before .before .before .before .before .before .before .before .before .before .before .before .before in
+    let by = c .before .before .before .before .before .before .before .before .before .before .by-probe in
+    let passed = c .before .before .before .before .before .before .if1 .left in
+    let tree = c .before .before .before .before .before .read in
     omega (arith, most-fits (start .args .sheet .now) blank long (by .result) (by .ensures .0) passed (tree .result) (tree .ensures) _ _ (c .at-most .ensures))
+
+times-any-requires : tie.Need-times-any-requires
+times-any-requires c κs = search needs
 
 returns-2 : tie.Need-returns-2
 returns-2 c =
@@ -55,8 +58,8 @@ returns-2 c =
     let by = c .before .before .before .before .before .before .before .before .before .before .before .by-probe in
     let passed = c .before .before .before .before .before .before .before .if1 .left in
     let tree = c .before .before .before .before .before .before .read in
-    ask-planned (start .args .sheet .now) blank long (by .result) (by .ensures .0) passed (tree .result) (tree .ensures) _ _ _
-    (c .before .before .all-packets .ensures) (c .before .slowest .ensures) (c .at-most .ensures)
+    ask-planned (start .args .sheet .now) blank long (by .result) (by .ensures .0) passed (tree .result) (tree .ensures) _ _ _ _
+    (c .before .before .before .least-slots .ensures) (c .before .before .slowest .ensures) (c .before .at-most .ensures) (c .times-any .ensures)
 
 pub ask-spec : {M : Type 1} → statement M
 ask-spec =
@@ -66,8 +69,9 @@ ask-spec =
     by-probe-requires
     returns
     read-requires
-    all-packets-requires
+    least-slots-requires
     slowest-requires
     at-most-requires
     cast-most
+    times-any-requires
     returns-2)
