@@ -1,10 +1,10 @@
-// How a gateway uses the library: it asks how long a reading takes, plans the sheet in a file both ways, sends the shorter plan slot by slot, has it judged,
+// How a gateway uses the library: it asks how long a reading takes, and how long otherwise arranged, plans the sheet in a file both ways, sends the shorter plan slot by slot, has it judged,
 // is told who spoils another plan, logs the listing, and writes the conflicts for a colouring program. gateway SHEET
 #include "yard.h"
 #include <inttypes.h>
 #include <stdio.h>
 
-static uint8_t sheet[YARD_SHEET_BYTES], by_probe[YARD_PLAN_BYTES], by_level[YARD_PLAN_BYTES], text[YARD_TEXT_BYTES], graph[YARD_GRAPH_BYTES];
+static uint8_t sheet[YARD_SHEET_BYTES], by_probe[YARD_PLAN_BYTES], by_level[YARD_PLAN_BYTES], text[YARD_TEXT_BYTES], graph[YARD_GRAPH_BYTES], hung[YARD_LONGEST_SHEET];
 
 static void tell(const char *way, yard_planned planned) {
   printf("%s: %d slots, %d colours, %zu bytes\n", way, planned.slots, planned.colours, planned.bytes);
@@ -46,6 +46,10 @@ int main(int argc, char **argv) {
 
   yard_told told = yard_ask(sheet, length);
   if (!told.number) printf("at least %d slots, ours %d, at most %d; at most %d times as many as anybody's\n", told.least, told.ours, told.most, told.times);
+
+  yard_spread spread = yard_ask_spread(sheet, length);
+  if (!spread.number) printf("hung otherwise: %d slots at best, %d at worst; ", spread.best, spread.worst);
+  if (!spread.number) printf("sheets of %zu and %zu bytes\n", yard_best(sheet, length, hung, YARD_LONGEST_SHEET), yard_worst(sheet, length, hung, YARD_LONGEST_SHEET));
 
   yard_planned probe = yard_by_probe(sheet, length, by_probe, YARD_PLAN_BYTES), level = yard_by_level(sheet, length, by_level, YARD_PLAN_BYTES);
   if (probe.number) return printf("no plan: refused %d at %d\n", probe.number, probe.place), 1;

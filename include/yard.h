@@ -1,4 +1,4 @@
-// The yard planner for gateways: telephone, planners, judge, chooser, lister and the writer and reader of graphs, over bytes in memory.
+// The yard planner for gateways: telephone, arrangements, planners, judge, chooser, lister and the writer and reader of graphs, over bytes in memory.
 //
 // Every function takes any bytes: the caller tests nothing first, nothing is kept between calls, and nothing is allocated. Every answer is a plan, a
 // verdict, a text, a table or a numbered refusal; docs/NUMBERS.md has the numbers in plain words, docs/CONTRACTS.md says exactly what each function answers.
@@ -23,6 +23,7 @@ extern "C" {
 
 enum {
   YARD_SHEET_BYTES = 4162,      // how much of a sheet decides every answer: one byte more than the longest has
+  YARD_LONGEST_SHEET = 4161,    // room for any sheet that is written
   YARD_PLAN_BYTES = 60482,      // room for any plan of ours
   YARD_JUDGED_BYTES = 96032,    // how much of a plan, from anybody, decides its verdict
   YARD_TEXT_BYTES = 302467,     // room for any listing
@@ -68,6 +69,27 @@ typedef struct {
 
 // How long one reading takes, before anything is sent. The caller provides a sheet and gets the answer; nothing is written.
 yard_told yard_ask(const uint8_t *sheet, size_t sheet_length);
+
+// How long the same probes with the same packets take, hung otherwise and disturbing each other otherwise. Answered: number and place are 0; of any tree and any
+// pairs a plan of ours has at most `worst` slots, and no plan that the judge passes fewer than `best`; both are reached. Refused: number is 1 to 8, place says
+// where, and the other two are 0.
+typedef struct {
+  uint8_t number;
+  uint16_t place;
+  uint16_t best;
+  uint16_t worst;
+} yard_spread;
+
+// The caller provides a sheet and gets the answer; nothing is written.
+yard_spread yard_ask_spread(const uint8_t *sheet, size_t sheet_length);
+
+// Writes the sheet of the worst arrangement of a sheet's probes: a chain, the fewest packets next to the gateway, all pairs interfering. No plan for it has fewer
+// than `worst` slots, and ours has as many. The caller provides YARD_LONGEST_SHEET bytes, whatever the sheet, and gets how many were written; the bytes behind them
+// stay. A shorter buffer is left as it was, and also where the sheet is refused; the answer is then 0, which no sheet's length is.
+size_t yard_worst(const uint8_t *sheet, size_t sheet_length, uint8_t *out, size_t out_length);
+
+// The same of the best arrangement: every probe next to the gateway, no pair. Ours has `best` slots there.
+size_t yard_best(const uint8_t *sheet, size_t sheet_length, uint8_t *out, size_t out_length);
 
 // Plans by probe. The caller provides a sheet and a buffer of 2 + 2 x hops bytes; YARD_PLAN_BYTES are enough for any sheet.
 // It gets the plan in the first `bytes` bytes of the buffer; the bytes behind it stay. A refusal (9: the buffer is too short) leaves the whole buffer as it was.

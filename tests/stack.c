@@ -5,7 +5,7 @@
 #include <string.h>
 #include <ucontext.h>
 
-enum { BY_PROBE, BY_LEVEL, JUDGE, CHOOSE, GRAPH_WRITE, GRAPH_READ, LIST, ASK, FUNCTIONS, PAINT = 0xa5, LENT = 1 << 20, LAST_SLOT = 255, MOST_SLOTS = 65535 };
+enum { BY_PROBE, BY_LEVEL, JUDGE, CHOOSE, GRAPH_WRITE, GRAPH_READ, SPREAD, WORST, BEST, LIST, ASK, FUNCTIONS, PAINT = 0xa5, LENT = 1 << 20, LAST_SLOT = 255, MOST_SLOTS = 65535 };
 
 static uint8_t lent[LENT], sheet[YARD_SHEET_BYTES], plan[YARD_JUDGED_BYTES + 1], out[YARD_TEXT_BYTES], text[YARD_GRAPH_BYTES];
 static uint64_t rows[64];
@@ -20,6 +20,9 @@ static void call(void) {
   if (function == CHOOSE) yard_choose(sheet, length, plan, bytes, plan, bytes);
   if (function == GRAPH_WRITE) yard_graph_write(sheet, length, out, room);
   if (function == GRAPH_READ) yard_graph_read(text, text_bytes, rows);
+  if (function == SPREAD) yard_ask_spread(sheet, length);
+  if (function == WORST) yard_worst(sheet, length, out, room);
+  if (function == BEST) yard_best(sheet, length, out, room);
   if (function == LIST) yard_list(sheet, length, out, room);
   if (function == ASK) yard_ask(sheet, length);
 }
@@ -75,7 +78,7 @@ static void texts(size_t size) {
 // Every function on the sheet that stands there.
 static void sheet_done(void) {
   yard_planned own = yard_by_probe(sheet, length, plan, YARD_PLAN_BYTES);
-  for (room = 0; room <= YARD_TEXT_BYTES; room += YARD_TEXT_BYTES) measure(BY_PROBE), measure(BY_LEVEL), measure(LIST), measure(ASK), measure(GRAPH_WRITE);
+  for (room = 0; room <= YARD_TEXT_BYTES; room += YARD_TEXT_BYTES) measure(BY_PROBE), measure(BY_LEVEL), measure(LIST), measure(ASK), measure(GRAPH_WRITE), measure(SPREAD), measure(WORST), measure(BEST);
   yard_drawn drawn = yard_graph_write(sheet, length, text, YARD_GRAPH_BYTES);
   if (drawn.number == 0) texts(drawn.bytes);
   if (own.number) judged(0);
@@ -117,8 +120,8 @@ int main(void) {
   sheets();
   size_t most = 0;
   for (int k = 0; k < LIST; k++) most = deepest[k] > most ? deepest[k] : most;
-  printf("stack used by probe %zu, by level %zu, to judge %zu, to choose %zu, to write a graph %zu, to read one %zu of %d bytes; to list %zu, to ask %zu of %d\n", deepest[BY_PROBE],
-    deepest[BY_LEVEL], deepest[JUDGE], deepest[CHOOSE], deepest[GRAPH_WRITE], deepest[GRAPH_READ], YARD_STACK, deepest[LIST], deepest[ASK], YARD_LIST_STACK);
+  printf("stack used by probe %zu, by level %zu, to judge %zu, to choose %zu, to write a graph %zu, to read one %zu, at worst and best %zu, to hang them %zu and %zu of %d bytes; to list %zu, to ask %zu of %d\n", deepest[BY_PROBE],
+    deepest[BY_LEVEL], deepest[JUDGE], deepest[CHOOSE], deepest[GRAPH_WRITE], deepest[GRAPH_READ], deepest[SPREAD], deepest[WORST], deepest[BEST], YARD_STACK, deepest[LIST], deepest[ASK], YARD_LIST_STACK);
   int all = fits("YARD_STACK", most, YARD_STACK), list = fits("YARD_LIST_STACK", deepest[LIST] > deepest[ASK] ? deepest[LIST] : deepest[ASK], YARD_LIST_STACK);
   return all && list ? 0 : 1;
 }

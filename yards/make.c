@@ -89,14 +89,25 @@ static Yard one_string(void) {
   return y;
 }
 
+// The same probes in one chain, the fewest packets next to the gateway, each two disturbing each other: no arrangement is slower.
+static Yard worst(void) {
+  Yard y = sixty();
+  int before = 1;
+  for (int packets = 1; packets <= 3; packets++)
+    for (int v = 2; v <= y.p + 1; v++)
+      if (y.packets[v] == packets) y.parent[v] = before, before = v;
+  memset(y.pair, 1, sizeof y.pair);
+  return y;
+}
+
 int main(int argc, char **argv) {
   static const unsigned char document[] = {3, 1, 1, 2, 1, 1, 1, 0, 0}, none[] = {0, 0, 0}, damaged[] = {3, 1, 1, 4, 1, 3, 1, 0, 0};
   if (argc != 2) return printf("usage: make FOLDER\n"), 2;
   folder = argv[1];
   save("document", document, sizeof document), save("empty", none, sizeof none), save("damaged", damaged, sizeof damaged);
-  Yard good = down_the_aisles(), bad = one_string(), relays = relays_in_the_aisles(), chain = line(63, 2, 1), star = line(63, 2, 0), longest = line(63, 1, 1);
+  Yard good = down_the_aisles(), bad = one_string(), relays = relays_in_the_aisles(), chain = line(63, 2, 1), star = line(63, 2, 0), longest = line(63, 1, 1), slowest = worst();
   memset(longest.pair, 1, sizeof longest.pair);
   write_yard("sixty", &good), write_yard("sixty-in-one-string", &bad), write_yard("relays", &relays);
-  write_yard("chain", &chain), write_yard("star", &star), write_yard("longest", &longest);
+  write_yard("chain", &chain), write_yard("star", &star), write_yard("longest", &longest), write_yard("sixty-at-worst", &slowest);
   return 0;
 }

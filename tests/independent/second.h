@@ -11,6 +11,11 @@ yard_verdict second_judge(const uint8_t *sheet, size_t length, const uint8_t *pl
 uint8_t second_choose(const uint8_t *sheet, size_t length, const uint8_t *first, size_t first_size, const uint8_t *second, size_t second_size);
 
 yard_told second_ask(const uint8_t *sheet, size_t length);
+yard_spread second_spread(const uint8_t *sheet, size_t length);
+
+// The worst and the best sheet, into a buffer of at least YARD_LONGEST_SHEET bytes; 0 where the sheet is refused.
+size_t second_worst(const uint8_t *sheet, size_t length, uint8_t *out);
+size_t second_best(const uint8_t *sheet, size_t length, uint8_t *out);
 
 // The lister's text, into a buffer of at least YARD_TEXT_BYTES bytes.
 size_t second_list(const uint8_t *sheet, size_t length, char *text);

@@ -18,7 +18,7 @@ enum { BACKWARDS, OTHERWISE, ORDERS };
 static unsigned char sheet[MOST_SHEET], got[YARD_TEXT_BYTES + 8], want[YARD_TEXT_BYTES + 8], plan[2][MOST_PLAN], own[YARD_PLAN_BYTES];
 static unsigned char sheet_lent[MOST_SHEET], plan_lent[2][MOST_PLAN];
 static unsigned char text[MOST_TEXT], text_lent[MOST_TEXT];
-static long sheets, yards, relayed, plannings, plans, listings, asked, drawings, texts, numbers[NUMBERS], placed[NUMBERS][PLACES];
+static long sheets, yards, relayed, plannings, plans, listings, asked, spreads, drawings, texts, numbers[NUMBERS], placed[NUMBERS][PLACES];
 static long blamed, ordered, ordered_by[NUMBERS][ORDERS], others, shorter, shortest;
 
 // ---- chance
@@ -173,6 +173,40 @@ static yard_told compare_told(size_t len) {
   if (a.number != b.number || a.place != b.place || a.least != b.least || a.ours != b.ours || a.most != b.most || a.times != b.times) differ("telephone", len, 0, 0, 0);
   if (a.least > a.ours || a.ours > a.most) differ("telephone's limits", len, 0, 0, 0);
   return b;
+}
+
+// The slots of other arrangements, between which ours must be, and the worst and the best sheet, into buffers about as long as the longest.
+static yard_spread compare_spread(size_t len) {
+  lend(len, 0, 0);
+  yard_spread a = yard_ask_spread(sheet, len), b = second_spread(sheet, len);
+  spreads++;
+  unchanged(len, 0, 0);
+  if (a.number != b.number || a.place != b.place || a.best != b.best || a.worst != b.worst) differ("slots of other arrangements", len, 0, 0, 0);
+  return b;
+}
+
+static size_t compare_hung(size_t len, int is_worst, size_t room) {
+  lend(len, 0, 0);
+  memset(got, FILL, room + 8), memset(want, FILL, room + 8);
+  size_t a = is_worst ? yard_worst(sheet, len, got, room) : yard_best(sheet, len, got, room), b = 0;
+  if (room >= YARD_LONGEST_SHEET) b = is_worst ? second_worst(sheet, len, want) : second_best(sheet, len, want);
+  unchanged(len, 0, 0);
+  if (a != b || memcmp(got, want, room + 8)) differ(is_worst ? "worst sheet" : "best sheet", len, room, 0, 0);
+  return b;
+}
+
+// On the worst sheet and on the best our plan has just the slots that are told, which is tried for each fourth.
+static void compare_arranged(size_t len, yard_told t) {
+  static unsigned char hung[YARD_LONGEST_SHEET];
+  yard_spread r = compare_spread(len);
+  if (t.ours > r.worst || r.best > t.least) differ("limits over arrangements", len, 0, 0, 0);
+  for (int is_worst = 0; is_worst < 2; is_worst++) {
+    size_t size = compare_hung(len, is_worst, rnd(16) ? YARD_LONGEST_SHEET + rnd(3) : YARD_LONGEST_SHEET - 1);
+    if (size == 0 || rnd(4)) continue;
+    memcpy(hung, got, size);
+    yard_told there = second_ask(hung, size);
+    if (there.number || there.ours != (is_worst ? r.worst : r.best)) differ("slots of a hung sheet", len, 0, 0, 0);
+  }
 }
 
 static void compare_listing(size_t len, size_t room) {
@@ -794,6 +828,7 @@ static void compare(long want_yards, long want_plans) {
     size_t len = some_sheet(), room = second_room(sheet, len);
     sheets++, yards += room > 0, relayed += room > 0 && has_relay();
     told = compare_told(len);
+    compare_arranged(len, told);
     if (room > 0) anybodys(len);
     if (room == 0) room = rnd(40);
     for (int by_level = 0; by_level < 2; by_level++) {
@@ -953,7 +988,7 @@ int main(int argc, char **argv) {
   slot_by_slot(), byte_by_byte(), long_texts();
   compare(atol(argv[2]), atol(argv[3]));
   if (yards >= 20000) enough(), enough_others(), enough_orders(), enough_places();
-  printf("%ld yards, %ld of them with relays, and %ld refused sheets, %ld plannings, %ld listings, %ld telephone answers and %ld judged plans agree; by number:", yards, relayed, sheets - yards, plannings, listings, asked, plans);
+  printf("%ld yards, %ld of them with relays, and %ld refused sheets, %ld plannings, %ld listings, %ld telephone answers, %ld of other arrangements and %ld judged plans agree; by number:", yards, relayed, sheets - yards, plannings, listings, asked, spreads, plans);
   for (int k = 0; k < NUMBERS; k++) printf(" %d: %ld", k, numbers[k]);
   printf("\n%ld plans of nobody's planner keep the limits, %ld of them shorter than ours, and %ld as short as any can be", others, shorter, shortest);
   printf("\n%ld refused plans name senders, and in %ld of them another order would name others; backwards, otherwise:", blamed, ordered);

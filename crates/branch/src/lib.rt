@@ -4,7 +4,7 @@ ghost use mathlib.Core.Bool.{cond};
 ghost use Prim.Native.Nat.{_-_, _*_, _≤_, max};
 ghost use lib.ListN.{length, getD};
 ghost use Rattle.meaning.specs.Words.{places, sumProbes, mostProbes, byNode};
-ghost use Rattle.meaning.specs.Yard.{reaches, lagOn, branchPackets, branchLag, hearsAndSends, heaviestOf, slowestOf, leastSlotsOf};
+ghost use Rattle.meaning.specs.Yard.{reaches, lagOn, branchPackets, branchLag, heaviestOf, slowestOf, leastSlotsOf};
 ghost use Rattle.branch.specs.Weight.{weightOf};
 use meaning::Probe;
 

@@ -1,18 +1,18 @@
 -- Which sentences an answer has, and how long they can be: part by part.
-use mathlib.Core.Path.{_≡_, refl, ap}
+use mathlib.Core.Path.{_≡_, refl}
 use mathlib.Core.Bool.{Bool, true, false, cond}
-use mathlib.Core.List.{List, [], _++_}
+use mathlib.Core.List.{[], _++_}
 use Prim.Native.Nat.{ℕ, _+_, _/_, _%_, _≤_, _<_}
 use native.Mathlib.Omega.{arith}
 use borrow.Author.Tests.{eq-eqb, ne-eqb, lt-ltb, le-ltb}
 use lib.Dec.{eqb, ltb}
 use lib.ListN.{length}
 use Rattle.meaning.specs.declared.Told.{Told}
-use Rattle.meaning.specs.Lister.{text, decimal, said}
+use Rattle.meaning.specs.Lister.{text, decimal}
 use Rattle.wording.specs.Worded.{refusedLine}
 use Rattle.wording.proofs.AnswersLong.{Within, counted, both, numbered, digits-long}
 use Rattle.dealer.specs.SlotLength.{down, up, secondsOf}
-use Rattle.dealer.specs.Sentences.{minutes, timed, leastSaid, oursSaid, mostSaid, nobodySaid, sentences, askedText}
+use Rattle.dealer.specs.Sentences.{minutes, timed, leastSaid, oursSaid, mostSaid, nobodySaid, sentences, askedText, spreadText}
 
 -- a slot's length is known, or not
 module _ (slots ms rounding : ℕ) where
@@ -88,4 +88,11 @@ pub sentences-most : (told : Told) (ms : ℕ) → length (sentences told ms) ≤
 sentences-most told ms =
     let slots = both (both (least-long (told .least) ms) (ours-long (told .ours) ms)) (most-long (told .most) ms) in
     let all = both slots (nobody-long (told .least) (told .ours) (told .times)) in
+    omega (arith, all .short)
+
+pub spread-most : (best worst : ℕ) → length (spreadText best worst) ≤ 256
+unfolding text spreadText
+spread-most best worst =
+    let first = numbered {a = 68} "The same probes, hung otherwise and disturbing each other otherwise:" best (counted refl) in
+    let all = both (both first (numbered {a = 15} " slots at best," worst (counted refl))) (counted {bytes = text " at worst.\n"} {most = 11} refl) in
     omega (arith, all .short)

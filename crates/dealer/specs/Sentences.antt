@@ -41,3 +41,7 @@ sentences told ms = leastSaid (told .least) ms ++ oursSaid (told .ours) ms ++ mo
 -- the sentences, or the line of a refusal
 unfoldable pub askedText : Told → (ms : ℕ) → Bytes
 askedText told ms = cond (isAccepted (told .outcome)) (sentences told ms) (refusedLine (told .outcome))
+
+-- RULES, "The answers in words": the slots of the best and of the worst arrangement of the same probes
+unfoldable pub spreadText : (best worst : ℕ) → Bytes
+spreadText best worst = said "The same probes, hung otherwise and disturbing each other otherwise:" best ++ said " slots at best," worst ++ text " at worst.\n"

@@ -1,11 +1,11 @@
-// The telephone in the dealer's words: how long a slot is, and the four sentences about a sheet.
+// The telephone in the dealer's words: how long a slot is, the four sentences about a sheet, and the line about other arrangements of its probes.
 ghost use mathlib.Core.Path.{_≡_};
 ghost use Prim.Native.Nat.{_≤_, min};
 ghost use lib.ListN.{length, take};
 ghost use Rattle.lines.specs.Line.{lineLength, lineIn};
 ghost use Rattle.wording.specs.Fits.{Fits};
 ghost use Rattle.dealer.specs.SlotLength.{longestSlot, millisecondsSaid, secondsOf};
-ghost use Rattle.dealer.specs.Sentences.{timed, leastSaid, oursSaid, mostSaid, nobodySaid, sentences, askedText};
+ghost use Rattle.dealer.specs.Sentences.{timed, leastSaid, oursSaid, mostSaid, nobodySaid, sentences, askedText, spreadText};
 use meaning::Told;
 
 // A slot is at most a minute long, in milliseconds.
@@ -115,5 +115,30 @@ pub fn asked(out: &mut [u8], told: Told, ms: u16) -> usize
     }
     let mut line = [0u8; wording::ANY_ANSWER];
     let n = put_sentences(told, ms, &mut line, 0);
+    lines::put_words(&line[..n], out, 0)
+}
+
+// Puts what is said of the other arrangements at a place; says where it ends.
+fn put_spread(best: u16, worst: u16, out: &mut [u8], at: usize) -> usize
+    ensures { λ r. ⌜ Fits (now (out .entry)) at (spreadText best worst) (now (out .exit)) r ⌝ }
+{
+    let a = lines::put_counted(
+        b"The same probes, hung otherwise and disturbing each other otherwise: ",
+        best,
+        out,
+        at,
+    );
+    let b = lines::put_counted(b" slots at best, ", worst, out, a);
+    lines::put_words(b" at worst.\n", out, b)
+}
+
+// What is said of the other arrangements of a sheet's probes, at the start of a lent buffer; says how many bytes it has, 0 and nothing written where they do not fit.
+pub fn spread(out: &mut [u8], best: u16, worst: u16) -> usize
+    ensures part { λ r. ⌜ (r ≤ length (now (out .exit))) × (r ≡ length (take r (now (out .exit)))) ⌝ }
+    ensures answer { λ r. ⌜ r ≡ lineLength (now (out .entry)) (spreadText best worst) ⌝ }
+    ensures buffer { λ _. ⌜ now (out .exit) ≡ lineIn (now (out .entry)) (spreadText best worst) ⌝ }
+{
+    let mut line = [0u8; wording::ANY_ANSWER];
+    let n = put_spread(best, worst, &mut line, 0);
     lines::put_words(&line[..n], out, 0)
 }

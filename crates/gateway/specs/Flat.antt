@@ -1,15 +1,17 @@
--- The answers of RULES, "Numbers returned", "The telephone" and "A graph as text", as C sees them.
+-- The answers of RULES, "Numbers returned", "The telephone", "Worst and best" and "A graph as text", as C sees them.
 use Prim.Native.Nat.{ℕ}
 use Rattle.meaning.specs.declared.Planned.{Planned}
 use Rattle.meaning.specs.declared.Judgement.{Judgement}
 use Rattle.meaning.specs.declared.Told.{Told}
 use Rattle.meaning.specs.declared.Choice.{Choice}
 use Rattle.meaning.specs.declared.Choice.the-variants.{Neither, First, Second}
+use Rattle.arrangement.specs.declared.Spread.{Spread}
 use Rattle.graph.specs.declared.Drawn.{Drawn}
 use Rattle.graph.specs.declared.Graph.{Graph}
 use Rattle.gateway.specs.declared.YardPlanned.{YardPlanned}
 use Rattle.gateway.specs.declared.YardVerdict.{YardVerdict}
 use Rattle.gateway.specs.declared.YardTold.{YardTold}
+use Rattle.gateway.specs.declared.YardSpread.{YardSpread}
 use Rattle.gateway.specs.declared.YardDrawn.{YardDrawn}
 use Rattle.gateway.specs.declared.YardGraph.{YardGraph}
 
@@ -34,6 +36,10 @@ flatVerdict r =
 abbrev pub flatTold : Told → YardTold
 flatTold r =
     record { number = r .outcome .number; place = r .outcome .place; least = r .least; ours = r .ours; most = r .most; times = r .times }
+
+-- "Worst and best": number, place, and the slots at best and at worst
+abbrev pub flatSpread : Spread → YardSpread
+flatSpread r = record { number = r .outcome .number; place = r .outcome .place; best = r .best; worst = r .worst }
 
 -- "A graph as text", written: number, place and bytes
 abbrev pub flatDrawn : Drawn → YardDrawn

@@ -1,4 +1,4 @@
-// The library for gateways: telephone, planners, judge, chooser, lister and graphs over pointers and lengths, as include/yard.h declares them.
+// The library for gateways: telephone, arrangements, planners, judge, chooser, lister and graphs over pointers and lengths, as include/yard.h declares them.
 ghost use mathlib.Core.Path.{_≡_};
 ghost use mathlib.Core.Bool.{false, cond};
 ghost use Prim.Native.Nat.{_+_, _^_, _<_};
@@ -8,11 +8,13 @@ ghost use Rattle.meaning.specs.Rounds.{byProbe, byLevel};
 ghost use Rattle.meaning.specs.Answer.{planMade};
 ghost use Rattle.meaning.specs.Judge.{judgement, choice};
 ghost use Rattle.meaning.specs.Telephone.{asked};
+ghost use Rattle.arrangement.specs.Arranged.{spreadOf, worstSheet, bestSheet, arranged};
 ghost use Rattle.listing.specs.Listed.{listedLength, listedIn};
 ghost use Rattle.graph.specs.Drawing.{graphMade};
 ghost use Rattle.graph.specs.Reading.{graphRead};
-ghost use Rattle.gateway.specs.Flat.{flatPlanned, flatVerdict, flatTold, flatDrawn, flatGraph, choiceNumber};
+ghost use Rattle.gateway.specs.Flat.{flatPlanned, flatVerdict, flatTold, flatSpread, flatDrawn, flatGraph, choiceNumber};
 ghost use Rattle.gateway.specs.Rows.{word, rowWords};
+use arrangement::Spread;
 use graph::Drawn;
 use graph::Graph;
 use meaning::Choice;
@@ -49,6 +51,15 @@ pub struct YardTold {
     pub ours: u16,
     pub most: u16,
     pub times: u8,
+}
+
+// The slots of other arrangements, with C's layout.
+#[repr(C)]
+pub struct YardSpread {
+    pub number: u8,
+    pub place: u16,
+    pub best: u16,
+    pub worst: u16,
 }
 
 // What the writer of a graph answers, with C's layout.
@@ -106,6 +117,18 @@ fn told(r: Told) -> YardTold
         ours: r.ours,
         most: r.most,
         times: r.times,
+    }
+}
+
+fn spread(r: Spread) -> YardSpread
+    ensures { λ f. ⌜ f ≡ flatSpread r ⌝ }
+{
+    let outcome = r.outcome;
+    YardSpread {
+        number: outcome.number,
+        place: outcome.place,
+        best: r.best,
+        worst: r.worst,
     }
 }
 
@@ -172,6 +195,33 @@ pub extern "C" fn yard_ask(sheet: &[u8]) -> YardTold
 {
     let r = telephone::ask(sheet);
     told(r)
+}
+
+// The slots of other arrangements.
+#[no_mangle]
+pub extern "C" fn yard_ask_spread(sheet: &[u8]) -> YardSpread
+    ensures { λ r. ⌜ r ≡ flatSpread (spreadOf (now (sheet .entry))) ⌝ }
+{
+    let r = arrangement::spread_of(sheet);
+    spread(r)
+}
+
+// The sheet of the worst arrangement.
+#[no_mangle]
+pub extern "C" fn yard_worst(sheet: &[u8], out: &mut [u8]) -> usize
+    ensures answer { λ r. ⌜ r ≡ length (arranged worstSheet (now (sheet .entry)) (length (now (out .entry)))) ⌝ }
+    ensures buffer { λ _. ⌜ now (out .exit) ≡ front (now (out .entry)) (arranged worstSheet (now (sheet .entry)) (length (now (out .entry)))) ⌝ }
+{
+    arrangement::worst_sheet(sheet, out)
+}
+
+// The sheet of the best arrangement.
+#[no_mangle]
+pub extern "C" fn yard_best(sheet: &[u8], out: &mut [u8]) -> usize
+    ensures answer { λ r. ⌜ r ≡ length (arranged bestSheet (now (sheet .entry)) (length (now (out .entry)))) ⌝ }
+    ensures buffer { λ _. ⌜ now (out .exit) ≡ front (now (out .entry)) (arranged bestSheet (now (sheet .entry)) (length (now (out .entry)))) ⌝ }
+{
+    arrangement::best_sheet(sheet, out)
 }
 
 // The plan by probe.

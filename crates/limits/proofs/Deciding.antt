@@ -155,7 +155,7 @@ module _ (s : List ℕ) (refused : isAccepted (sheetTest s) ≡ false) where
       ap₂ (λ (v : Verdict) (n : Names). record { verdict = v; names = n }) (without-names s plan ∙ verdict-refused plan) (refused-names s plan refused)
 
 -- what is answered of the first 4,162 bytes is answered of all
-decided : {A : Type 0} (answer : List ℕ → A) (of : Outcome → A) → ((s : List ℕ) → isAccepted (sheetTest s) ≡ false → answer s ≡ of (sheetTest s))
+pub decided : {A : Type 0} (answer : List ℕ → A) (of : Outcome → A) → ((s : List ℕ) → isAccepted (sheetTest s) ≡ false → answer s ≡ of (sheetTest s))
     → (s : List ℕ) → answer (take decidingSheet s) ≡ answer s
 decided {A} answer of refused s = go (leb (length s) decidingSheet) refl
   where

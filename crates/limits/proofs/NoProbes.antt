@@ -1,5 +1,5 @@
 -- With no probes there is nothing to sum up and nothing to be largest, so that the limits, the hops, the largest degree and the colours are 0.
-use mathlib.Core.Path.{_≡_, refl, ap, _∙_}
+use mathlib.Core.Path.{_≡_, ap, _∙_}
 use mathlib.Core.Bool.{true}
 use mathlib.Core.List.{List}
 use Prim.Native.Nat.{ℕ, _+_, _*_, max}

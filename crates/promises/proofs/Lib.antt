@@ -1,6 +1,7 @@
 -- Read Promises; the others carry it.
 pub mod Numbers
 pub mod Planning
+pub mod Rehung
 pub mod ChosenPlan
 pub mod Bytes
 pub mod DrawnGraph

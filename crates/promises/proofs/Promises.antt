@@ -1,4 +1,4 @@
--- The page of promises: what planners, judge, chooser, lister, telephone and the writer and reader of graphs answer for every input, by their contracts, in the words of `specs/Answers.antt` and, of graphs, `specs/Graphs.antt`.
+-- The page of promises: what planners, judge, chooser, lister, telephone, other arrangements and the writer and reader of graphs answer for every input, by their contracts, in the words of `specs/Answers.antt` and, of graphs, `specs/Graphs.antt`.
 use mathlib.Core.Path.{_≡_}
 use mathlib.Core.Bool.{true, cond}
 use mathlib.Core.List.{List, []}
@@ -25,12 +25,17 @@ use Rattle.laws.proofs.Recorded.{no-empty-slot}
 use Rattle.laws.proofs.Used.{probe-colours-used, level-colours-used}
 use Rattle.judge.proofs.Conserved.{packetsAfter, conserved}
 use Rattle.limits.proofs.Deciding.{verdict-decided, judgement-decided, text-decided}
-use Rattle.limits.proofs.Fewest.{slots-least, slots-least-branch, slots-least-any}
+use Rattle.limits.proofs.Fewest.{slots-least, slots-least-any}
 use Rattle.limits.proofs.ColoursFew.{colours-degree}
 use Rattle.limits.proofs.NoProbes.{nothing-to-read}
 use Rattle.limits.proofs.Attained.{attains, attained}
 use Rattle.limits.proofs.Tops.{heaviest-at-top}
-use Rattle.telephone.proofs.Limits.{answered, not-answered, least-ours, ours-most, least-any, ours-times, ours-shortest}
+use Rattle.limits.proofs.PlanRuns.{slotsOfPlan}
+use Rattle.arrangement.specs.Arranged.{worstSlots, spreadOf, worstSheet, bestSheet, arranged}
+use Rattle.arrangement.proofs.NoIdle.{Full}
+use Rattle.arrangement.proofs.Equal.{equal-worst}
+use Rattle.arrangement.proofs.HungDecided.{spread-decided, hung-decided}
+use Rattle.telephone.proofs.Limits.{answered, not-answered, least-ours, ours-most, least-any, ours-times, ours-shortest, told-decided}
 use Rattle.graph.specs.Part.{newline, marks}
 use Rattle.graph.specs.Table.{noEdges}
 use Rattle.graph.specs.Reading.{graphRead}
@@ -40,8 +45,9 @@ use Rattle.readback.proofs.Drawn.{written-reads-back, refused-empty}
 use Rattle.readback.proofs.EdgeSet.{tells-edges}
 use Rattle.promises.specs.Graphs.{Draws, textOf}
 use Rattle.promises.proofs.DrawnGraph.{draws, draws-nothing, draws-short}
-use Rattle.promises.specs.Answers.{Planner, probe, level, way, slotsBy, answer, after, planOf, Answers, counted, Accepted, Refused, NoRelay, Room, Short, Passes, Byte, numbers}
+use Rattle.promises.specs.Answers.{Planner, probe, level, way, slotsBy, answer, after, planOf, Answers, counted, Accepted, Refused, NoRelay, Room, Short, SameProbes, Passes, Byte, numbers}
 use Rattle.promises.proofs.Planning.{plans, refuses-sheet, refuses-short, never-ten, own-passes, slots-few, by-probe-limit, by-probe-longest, by-probe-heaviest, by-level-limit, by-level-all, by-probe-theirs, by-probe-degrees, branch-limit, decides}
+use Rattle.promises.proofs.Rehung.{no-worse-ours, no-worse-full, hangs-worst, worst-for-all, no-better-any, hangs-best}
 use Rattle.promises.proofs.ChosenPlan.{first-chosen, second-chosen, neither-chosen}
 use Rattle.promises.proofs.Bytes.{bytes-good, plan-bytes-decide, plan-bytes-decide-judgement, choice-decided}
 
@@ -194,6 +200,35 @@ told-times = ours-times
 pub told-shortest : (s plan : Bytes) → Passes s plan → asked s .ours ≡ asked s .least → asked s .ours ≤ judge s plan .slots
 told-shortest = ours-shortest
 
+-- "Worst and best": of all sheets with the same probes and packets, hung anyhow and with any pairs: a plan of ours has at most the worst slots ..
+pub no-worse : (s other : Bytes) → SameProbes s other → (planner : Planner) (buffer : Bytes) → Accepted other → Room other buffer
+    → answer planner other buffer .slots ≤ worstSlots s
+no-worse = no-worse-ours
+
+-- .. and so has any plan that the judge passes, from anyone, unless it has empty slots, of which it may have any number ..
+pub no-worse-without-idle : (s other : Bytes) → SameProbes s other → (plan : Bytes) → Passes other plan → Full (slotsOfPlan plan)
+    → judge other plan .slots ≤ worstSlots s
+no-worse-without-idle = no-worse-full
+
+-- .. and the worst sheet is such a sheet, on which our plan has just these slots, and nobody's has fewer: it is the arrangement's fault and not the planner's
+pub worst-hung : (s : Bytes) → Accepted s → Accepted (worstSheet s) × SameProbes s (worstSheet s) × (length (slotsBy probe (worstSheet s)) ≡ worstSlots s)
+worst-hung = hangs-worst
+
+pub worst-for-everybody : (s : Bytes) → Accepted s → (plan : Bytes) → Passes (worstSheet s) plan → worstSlots s ≤ judge (worstSheet s) plan .slots
+worst-for-everybody = worst-for-all
+
+-- "Worst and best": no arrangement is read in fewer slots than packets, by anyone, and the best sheet takes just these
+pub no-better : (s other : Bytes) → SameProbes s other → (plan : Bytes) → Passes other plan → allPackets s ≤ judge other plan .slots
+no-better = no-better-any
+
+pub best-hung : (s : Bytes) → Accepted s → Accepted (bestSheet s) × SameProbes s (bestSheet s) × (length (slotsBy probe (bestSheet s)) ≡ allPackets s)
+best-hung = hangs-best
+
+-- "Worst and best": where all probes have as many packets the worst is (p + 1) / 2 times the best
+pub worst-of-equals : (s : Bytes) (each : ℕ) → ((v : Node) → isProbe (probeCount s) v ≡ true → packetsOf s v ≡ each)
+    → 2 * worstSlots s ≡ (probeCount s + 1) * allPackets s
+worst-of-equals = equal-worst
+
 -- "The lister": the heaviest branch is one next to the gateway
 pub heaviest-branch : (s : Bytes) → Accepted s
     → heaviest s ≡ mostProbes (probeCount s) (λ v. cond (eqb (parentOf s v) 1) (branchPackets (probeCount s) (parentOf s) (packetsOf s) v) 0)
@@ -212,6 +247,16 @@ bytes-decide-choice = choice-decided
 
 pub bytes-decide-text : (s : Bytes) → listing s ≡ list s
 bytes-decide-text = text-decided
+
+-- .. the telephone's, that on other arrangements, and the worst and the best sheet that are written
+pub bytes-decide-told : (s : Bytes) → asked (take decidingSheet s) ≡ asked s
+bytes-decide-told = told-decided
+
+pub bytes-decide-spread : (s : Bytes) → spreadOf (take decidingSheet s) ≡ spreadOf s
+bytes-decide-spread = spread-decided
+
+pub bytes-decide-hung : (sheetOf : Bytes → Bytes) (s : Bytes) (room : ℕ) → arranged sheetOf (take decidingSheet s) room ≡ arranged sheetOf s room
+bytes-decide-hung = hung-decided
 
 -- "Numbers returned": the first 96,032 bytes of a plan decide its verdict
 pub bytes-decide-plan : (s : Bytes) (plan : List Byte) → judge s (take decidingPlan (numbers plan)) ≡ judge s (numbers plan)

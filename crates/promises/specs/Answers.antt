@@ -68,6 +68,10 @@ Room s buffer = roomFor (hops s) ≤ length buffer
 abbrev pub Short : (s buffer : Bytes) → Type 0
 Short s buffer = length buffer < roomFor (hops s)
 
+-- another sheet has the same probes with the same packets, whatever its tree and its pairs
+abbrev pub SameProbes : (s other : Bytes) → Type 0
+SameProbes s other = (probeCount other ≡ probeCount s) × ((v : Node) → packetsOf other v ≡ packetsOf s v)
+
 -- the judge passes a plan
 abbrev pub Passes : (s plan : Bytes) → Type 0
 Passes s plan = isAccepted (judge s plan .outcome) ≡ true

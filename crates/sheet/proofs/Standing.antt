@@ -52,7 +52,7 @@ module _ (s : List ℕ) (ok : isAccepted (sheetTest s) ≡ true) where
     parents-read = ap {B = ℕ → ℕ} (λ (l : List ℕ). λ v. getD l v 0) (its .parents) ∙ parent-read s ok
 
     -- the packets likewise, all of them, and those of the heaviest and of the slowest branch
-    each-packets : (λ (v : ℕ). getD (tree .packets) v 0) ≡ packetsOf s
+    pub each-packets : (λ (v : ℕ). getD (tree .packets) v 0) ≡ packetsOf s
     each-packets = fun-ext (λ v. ap (λ (l : List ℕ). getD l v 0) (its .packets) ∙ packets-read s ok v)
 
     pub all-packets-read : sumProbes (tree .probes) (λ v. getD (tree .packets) v 0) ≡ allPackets s
@@ -60,7 +60,7 @@ module _ (s : List ℕ) (ok : isAccepted (sheetTest s) ≡ true) where
     all-packets-read = ap₂ (λ (p : ℕ) (f : ℕ → ℕ). sumProbes p f) (its .probes) each-packets
 
     -- whatever is told of probes, parents and packets
-    of-tree : (told : ℕ → (ℕ → ℕ) → (ℕ → ℕ) → ℕ)
+    pub of-tree : (told : ℕ → (ℕ → ℕ) → (ℕ → ℕ) → ℕ)
         → told (tree .probes) (λ v. getD (tree .parents) v 0) (λ v. getD (tree .packets) v 0) ≡ told (probeCount s) (parentOf s) (packetsOf s)
     of-tree told =
         ap₂ (λ (p : ℕ) (up : ℕ → ℕ). told p up (λ v. getD (tree .packets) v 0)) (its .probes) parents-read

@@ -7,12 +7,12 @@ use Prim.Native.Nat.{ℕ, _+_, _-_, _*_, _/_, _≤_, _<_, min}
 use native.Mathlib.Nat.{le-refl, mul-le-mul, lt-div-mul-add}
 use native.Mathlib.Omega.{arith}
 use lib.Dec.{leb}
-use lib.ListN.{length}
+use lib.ListN.{length, take}
 use borrow.Author.Tests.{leb-true, leb-false}
 use Rattle.meaning.specs.declared.Outcome.{Outcome}
 use Rattle.meaning.specs.declared.Told.{Told}
 use Rattle.meaning.specs.declared.Verdict.{Verdict}
-use Rattle.meaning.specs.Sheet.{leastSlots}
+use Rattle.meaning.specs.Sheet.{decidingSheet, leastSlots}
 use Rattle.meaning.specs.Colour.{coloursUsed, probeColours}
 use Rattle.meaning.specs.Plan.{planBytes, anyPlan}
 use Rattle.meaning.specs.Rounds.{byProbe, slotsOf}
@@ -24,6 +24,7 @@ use Rattle.laws.proofs.Slots.{true-or-false}
 use Rattle.laws.proofs.PlanMade.{makes, sheet-refuses, room-passes}
 use Rattle.laws.proofs.Own.{OwnPlan, by-probe-plan}
 use Rattle.limits.proofs.Hops.{hops-limit}
+use Rattle.limits.proofs.Deciding.{decided}
 use Rattle.limits.proofs.Fewest.{slots-least-any, no-hops}
 use Rattle.limits.proofs.MostByProbe.{by-probe-most}
 use Rattle.limits.proofs.RoundBeatsSlot.{by-probe-any}
@@ -147,3 +148,7 @@ module _ (s : List ℕ) where
   pub ours-times : (plan : List ℕ) → isAccepted (judge s plan .outcome) ≡ true → asked s .ours ≤ asked s .times * judge s plan .slots
   ours-times plan passed =
       by-answer (λ t. t .ours ≤ t .times * judge s plan .slots) (λ ok. times-slots ok plan passed) (λ _. omega arith)
+
+-- "The lister": the bytes that decide every other answer decide this one too
+pub told-decided : (s : List ℕ) → asked (take decidingSheet s) ≡ asked s
+told-decided = decided asked (λ o. record { outcome = o; least = 0; ours = 0; most = 0; times = 0 }) not-answered

@@ -1,10 +1,11 @@
-// The front door: answers, plans, judges, chooses, lists and draws graphs by file names. The first word of an answer is fixed, so that a script can go by it.
+// The front door: answers, plans, judges, chooses, lists, draws graphs and hangs the same probes otherwise, by file names. The first word of an answer is fixed, so that a script can go by it.
 use files::ANSWERED;
 use files::FAILED;
 use files::REFUSED;
 use libc::STDERR_FILENO;
 use libc::STDOUT_FILENO;
 use meaning::Choice;
+use meaning::Outcome;
 use meaning::Planned;
 
 // The arguments; in front of them stands what the starting script knows of an output (`files`).
@@ -28,6 +29,8 @@ enum Command {
     Choose,
     Graph,
     Table,
+    Worst,
+    Best,
     Help,
     Version,
     Unknown,
@@ -45,8 +48,8 @@ fn slot_length() -> u16 {
 
 // The command of a word.
 fn command_named(word: &[u8]) -> Command {
-    let names = b"ask list probe level judge choose graph table --help --version";
-    match grammar::place_of(names, 10, word) {
+    let names = b"ask list probe level judge choose graph table worst best --help --version";
+    match grammar::place_of(names, 12, word) {
         0 => Command::Ask,
         1 => Command::List,
         2 => Command::ByProbe,
@@ -55,8 +58,10 @@ fn command_named(word: &[u8]) -> Command {
         5 => Command::Choose,
         6 => Command::Graph,
         7 => Command::Table,
-        8 => Command::Help,
-        9 => Command::Version,
+        8 => Command::Worst,
+        9 => Command::Best,
+        10 => Command::Help,
+        11 => Command::Version,
         _ => Command::Unknown,
     }
 }
@@ -85,13 +90,51 @@ fn command_of(word: &[u8], count: usize) -> Command {
     }
 }
 
-// Says how long a reading of the sheet takes, in minutes too where it is said how long a slot is.
+// Says how long the same probes take otherwise arranged.
+fn say_spread(sheet: &[u8]) -> u8 {
+    let spread = arrangement::spread_of(sheet);
+    let mut line = [0u8; wording::ANY_ANSWER];
+    let n = dealer::spread(&mut line, spread.best, spread.worst);
+    files::say(STDOUT_FILENO, &line[..n], ANSWERED)
+}
+
+// Says how long a reading of the sheet takes, in minutes too where it is said how long a slot is; and how long otherwise arranged.
 fn ask(sheet: &[u8]) -> u8 {
     let told = telephone::ask(sheet);
     let outcome = told.outcome;
     let mut text = [0u8; wording::ANY_ANSWER];
     let n = dealer::asked(&mut text, told, slot_length());
-    files::say_answer(STDOUT_FILENO, &text[..n], outcome)
+    let status = files::say_answer(STDOUT_FILENO, &text[..n], outcome);
+    if status != ANSWERED {
+        return status;
+    }
+    say_spread(sheet)
+}
+
+// Writes a sheet that was made to its file, and says how long it is; a refusal leaves the file alone.
+fn write_sheet(to: i32, outcome: Outcome, made: &[u8]) -> u8 {
+    if outcome.number == 0 {
+        if files::write_file(to, PLAN, made) != ANSWERED {
+            return FAILED;
+        }
+    }
+    let mut line = [0u8; wording::ANY_ANSWER];
+    let m = wording::written(&mut line, outcome, made.len());
+    files::say_answer(to, &line[..m], outcome)
+}
+
+fn hang_worst(to: i32, sheet: &[u8]) -> u8 {
+    let tree = sheet::read(sheet);
+    let mut made = [0u8; arrangement::LONGEST_SHEET];
+    let n = files::within(arrangement::worst_sheet(sheet, &mut made), &made);
+    write_sheet(to, tree.outcome, &made[..n])
+}
+
+fn hang_best(to: i32, sheet: &[u8]) -> u8 {
+    let tree = sheet::read(sheet);
+    let mut made = [0u8; arrangement::LONGEST_SHEET];
+    let n = files::within(arrangement::best_sheet(sheet, &mut made), &made);
+    write_sheet(to, tree.outcome, &made[..n])
 }
 
 // Lists the sheet; a refusal is said with its meaning.
@@ -214,6 +257,8 @@ fn words_to(what: Command) -> i32 {
         Command::ByProbe => is_dash_argument(PLAN),
         Command::ByLevel => is_dash_argument(PLAN),
         Command::Graph => is_dash_argument(PLAN),
+        Command::Worst => is_dash_argument(PLAN),
+        Command::Best => is_dash_argument(PLAN),
         Command::Choose => is_dash_argument(OUT),
         _ => false,
     };
@@ -251,6 +296,8 @@ fn answer_on(what: Command, to: i32, sheet: &[u8]) -> u8 {
         Command::Judge => judge(sheet),
         Command::Choose => choose(to, sheet),
         Command::Graph => texts::write_graph(to, PLAN, sheet),
+        Command::Worst => hang_worst(to, sheet),
+        Command::Best => hang_best(to, sheet),
         _ => FAILED,
     }
 }
@@ -286,8 +333,10 @@ fn say_usage(to: i32, status: u8) -> u8 {
             \x20      yard choose SHEET PLAN PLAN [OUT]  the shorter of two plans that pass, also into the file OUT\n\
             \x20      yard graph SHEET TEXT              the conflicts as a graph in the DIMACS format, into the file TEXT\n\
             \x20      yard table TEXT                    a graph's text as a table\n\
+            \x20      yard worst SHEET OUT               the sheet of the worst arrangement of the same probes, into the file OUT\n\
+            \x20      yard best SHEET OUT                the sheet of the best, likewise\n\
             \x20      yard --help | --version            these lines, or the version\n\
-            One of the files may be -: standard input or, for a plan or a text that is made, standard output.\n",
+            One of the files may be -: standard input or, for what is made, standard output.\n",
         status,
     )
 }
