@@ -1,28 +1,25 @@
 -- The best sheet is accepted, with the same probes and packets: it is written as a star, where every probe hangs at level 1, so that its hops are its packets.
 -- Its plan has no more slots than hops, being our own, and no fewer than packets, being passed.
 use mathlib.Core.Path.{_≡_, refl, ap, _∙_, sym, subst}
-use mathlib.Core.Bool.{Bool, true, false, cond}
+use mathlib.Core.Bool.{true}
 use mathlib.Core.List.{List, [], _∷_, _++_, append-nil}
-use mathlib.Core.Logic.{⊎-elim}
 use Prim.Native.Nat.{ℕ, _+_, _-_, _*_, min}
 use native.Mathlib.Omega.{arith}
 use lib.ListN.{length}
 use Rattle.meaning.specs.declared.Verdict.{Verdict}
 use Rattle.meaning.specs.Words.{forEach, sumProbes}
-use Rattle.meaning.specs.Yard.{isProbe}
 use Rattle.meaning.specs.Sheet.{probeCount, packetsOf, hops, allPackets}
 use Rattle.meaning.specs.Plan.{twoBytes, planBytes}
 use Rattle.meaning.specs.Rounds.{Way, byProbe, byLevel, slotsOf}
 use Rattle.meaning.specs.Answer.{isAccepted, inOrder, sheetTest}
 use Rattle.laws.proofs.Turns.{sum-same}
 use Rattle.laws.proofs.Walk.{probe-least, probe-most}
-use Rattle.laws.proofs.Slots.{true-or-false}
-use Rattle.laws.proofs.Accepted.{accepted-yard, packets-outside}
+use Rattle.laws.proofs.Accepted.{accepted-yard}
 use Rattle.laws.proofs.Grounds.{few-probes}
 use Rattle.laws.proofs.Own.{OwnPlan, by-probe-plan, by-level-plan}
 use Rattle.limits.proofs.Fewest.{slots-least}
 use Rattle.arrangement.specs.Arranged.{records, bestSheet}
-use Rattle.arrangement.proofs.Written.{written, written-packets}
+use Rattle.arrangement.proofs.Written.{written, own-packets}
 use Rattle.arrangement.proofs.Hung.{Hangs, hung-ok, hung-hops}
 
 -- a plan of our own whose hops are the packets has as many slots
@@ -54,15 +51,8 @@ module _ (s : List ℕ) where
   unfolding bestSheet
   best-probes = refl
 
-  star-packets : (v : ℕ) → packetsOf star v ≡ packetsOf s v
-  star-packets v =
-      written-packets p (λ _. 1) (packetsOf s) 0 [] v
-      ∙ ⊎-elim (λ (h : isProbe p v ≡ true). ap (λ (b : Bool). cond b (packetsOf s v) 0) h)
-      (λ (h : isProbe p v ≡ false). ap (λ (b : Bool). cond b (packetsOf s v) 0) h ∙ sym (packets-outside s v h))
-      (true-or-false (isProbe p v))
-
   pub best-packets : (v : ℕ) → packetsOf (bestSheet s) v ≡ packetsOf s v
-  best-packets v = subst (λ (b : List ℕ). packetsOf b v ≡ packetsOf s v) is-star (star-packets v)
+  best-packets v = subst (λ (b : List ℕ). packetsOf b v ≡ packetsOf s v) is-star (own-packets s (λ _. 1) 0 [] v)
 
   pub best-all : allPackets (bestSheet s) ≡ allPackets s
   unfolding allPackets

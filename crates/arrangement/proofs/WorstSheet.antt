@@ -1,7 +1,7 @@
 -- The worst sheet is accepted, with the same probes and packets: it is written as the chain of the places, where each probe's level is its place, so that its
 -- hops are the worst slots; and any two of its probes conflict, since every two nodes interfere. So no plan for it has fewer slots, and ours has no more.
 use mathlib.Core.Path.{_≡_, refl, ap, ap₂, _∙_, sym, subst}
-use mathlib.Core.Bool.{Bool, true, false, cond, _||_}
+use mathlib.Core.Bool.{Bool, true, false, _||_}
 use mathlib.Core.List.{List}
 use mathlib.Core.Logic.{_≢_, ⊎-elim}
 use Prim.Native.Nat.{ℕ, _+_, _*_, _≤_}
@@ -10,7 +10,6 @@ use lib.Dec.{eqb}
 use lib.ListN.{length}
 use borrow.Author.Tests.{eq-eqb, ne-eqb}
 use Rattle.meaning.specs.declared.Verdict.{Verdict}
-use Rattle.meaning.specs.Yard.{isProbe}
 use Rattle.meaning.specs.Sheet.{probeCount, pairCount, pairRecords, parentOf, packetsOf, hops, interfere}
 use Rattle.meaning.specs.Plan.{planBytes}
 use Rattle.meaning.specs.Conflict.{linked, disturb}
@@ -19,14 +18,13 @@ use Rattle.meaning.specs.Answer.{isAccepted, sheetTest}
 use Rattle.meaning.specs.Judge.{judge}
 use Rattle.laws.proofs.Turns.{same-or-other, sum-same}
 use Rattle.laws.proofs.Walk.{not-both, probe-least, probe-most, probe-yes}
-use Rattle.laws.proofs.Slots.{true-or-false}
 use Rattle.laws.proofs.Conflicting.{interfere-sym, conflicts-of}
-use Rattle.laws.proofs.Accepted.{accepted-yard, packets-outside}
+use Rattle.laws.proofs.Accepted.{accepted-yard}
 use Rattle.laws.proofs.Grounds.{few-probes}
 use Rattle.laws.proofs.Own.{OwnPlan, by-probe-plan, by-level-plan}
 use Rattle.limits.proofs.Exclusive.{Exclusive}
 use Rattle.arrangement.specs.Arranged.{placeOf, worstSlots, chainParent, allPairs, worstSheet}
-use Rattle.arrangement.proofs.Written.{written, written-packets, written-pairs, written-records, probe-parent}
+use Rattle.arrangement.proofs.Written.{written, written-pairs, written-records, probe-parent, own-packets}
 use Rattle.arrangement.proofs.Hung.{Hangs, hung-ok, hung-hops}
 use Rattle.arrangement.proofs.AllPairs.{pairsOf, all-twice, all-pass, all-interfere}
 use Rattle.arrangement.proofs.Chain.{chainLevel, parent-least, parent-most, gateway-level, probe-level, chain-up, chain-most}
@@ -79,15 +77,8 @@ module _ (s : List ℕ) where
   unfolding worstSheet
   worst-probes = refl
 
-  chain-packets : (v : ℕ) → packetsOf chain v ≡ packetsOf s v
-  chain-packets v =
-      written-packets p up (packetsOf s) (pairsOf p) (allPairs (p + 1)) v
-      ∙ ⊎-elim (λ (h : isProbe p v ≡ true). ap (λ (b : Bool). cond b (packetsOf s v) 0) h)
-      (λ (h : isProbe p v ≡ false). ap (λ (b : Bool). cond b (packetsOf s v) 0) h ∙ sym (packets-outside s v h))
-      (true-or-false (isProbe p v))
-
   pub worst-packets : (v : ℕ) → packetsOf (worstSheet s) v ≡ packetsOf s v
-  worst-packets v = subst (λ (w : List ℕ). packetsOf w v ≡ packetsOf s v) is-chain (chain-packets v)
+  worst-packets v = subst (λ (w : List ℕ). packetsOf w v ≡ packetsOf s v) is-chain (own-packets s up (pairsOf p) (allPairs (p + 1)) v)
 
   module _ (ok : isAccepted (sheetTest s) ≡ true) where
     hangs : Hangs p up (packetsOf s) (chainLevel p (packetsOf s))

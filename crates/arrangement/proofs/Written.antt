@@ -1,6 +1,6 @@
 -- A sheet that is written from parents, packets and pairs is read back as what it was written from: each number is looked up in the part where it stands,
 -- and the bytes are as many as the counts say.
-use mathlib.Core.Path.{_≡_, refl, ap, _∙_}
+use mathlib.Core.Path.{_≡_, refl, sym, ap, _∙_}
 use mathlib.Core.Bool.{Bool, true, false, cond}
 use mathlib.Core.List.{List, _∷_, _++_}
 use Prim.Native.Nat.{ℕ, _+_, _-_, _*_, _/_, _≤_, _<_}
@@ -126,3 +126,10 @@ module _ (p : ℕ) (parent packets : ℕ → ℕ) (q : ℕ) (pairs : List ℕ) w
           le-ltb (length w) (sheetLength w) (omega (arith, written-long)),
           le-ltb (sheetLength w) (length w) (omega (arith, written-long)),
         )
+
+-- written with a sheet's own probes and packets, it has the sheet's packets
+pub own-packets : (s : List ℕ) (parent : ℕ → ℕ) (q : ℕ) (pairs : List ℕ) (v : ℕ)
+    → packetsOf (written (probeCount s) parent (packetsOf s) q pairs) v ≡ packetsOf s v
+own-packets s parent q pairs v =
+    written-packets (probeCount s) parent (packetsOf s) q pairs v
+    ∙ sym (chosen (isProbe (probeCount s) v) (packetsOf s v) (packetsOf s v) 0 (λ _. refl) (packets-outside s v))

@@ -7,6 +7,7 @@ use libc::STDOUT_FILENO;
 use meaning::Choice;
 use meaning::Outcome;
 use meaning::Planned;
+use meaning::Told;
 
 // The arguments; in front of them stands what the starting script knows of an output (`files`).
 const COMMAND: usize = 2;
@@ -90,25 +91,24 @@ fn command_of(word: &[u8], count: usize) -> Command {
     }
 }
 
-// Says how long the same probes take otherwise arranged.
-fn say_spread(sheet: &[u8]) -> u8 {
+// Puts how long a reading of the sheet takes, in minutes too where it is said how long a slot is, and how long otherwise arranged; says where it ends.
+fn put_asked(sheet: &[u8], told: Told, text: &mut [u8]) -> usize {
+    let outcome = told.outcome;
+    let n = dealer::asked(text, told, slot_length());
+    if outcome.number != 0 {
+        return n;
+    }
     let spread = arrangement::spread_of(sheet);
-    let mut line = [0u8; wording::ANY_ANSWER];
-    let n = dealer::spread(&mut line, spread.best, spread.worst);
-    files::say(STDOUT_FILENO, &line[..n], ANSWERED)
+    n + dealer::spread(&mut text[n..], spread.best, spread.worst)
 }
 
-// Says how long a reading of the sheet takes, in minutes too where it is said how long a slot is; and how long otherwise arranged.
+// Says so, two lines in one write.
 fn ask(sheet: &[u8]) -> u8 {
     let told = telephone::ask(sheet);
-    let outcome = told.outcome;
-    let mut text = [0u8; wording::ANY_ANSWER];
-    let n = dealer::asked(&mut text, told, slot_length());
-    let status = files::say_answer(STDOUT_FILENO, &text[..n], outcome);
-    if status != ANSWERED {
-        return status;
-    }
-    say_spread(sheet)
+    let mut text = [0u8; 2 * wording::ANY_ANSWER];
+    let n = put_asked(sheet, told, &mut text);
+    let end = files::within(n, &text);
+    files::say_answer(STDOUT_FILENO, &text[..end], told.outcome)
 }
 
 // Writes a sheet that was made to its file, and says how long it is; a refusal leaves the file alone.
