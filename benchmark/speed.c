@@ -1,4 +1,4 @@
-// Plans and judgements a second of the proved library and of the second reading (tests/independent/second.c), on five yards: the longest sheet, sixty probes at random, a star, yard A of docs/RULES.md, and sixty at random with relays.
+// Plans, judgements and wake books a second of the proved library and of the second reading (tests/independent/second.c), on five yards: the longest sheet, sixty probes at random, a star, yard A of docs/RULES.md, and sixty at random with relays; and the book of the longest plan that passes, with 65,535 slots.
 // Both answer the same calls turn by turn in one run, and first their answers are compared. Each buffer is cleared before a plan is made, outside the
 // time. speed [TURNS]
 #include "second.h"
@@ -11,7 +11,7 @@ enum { MOST = 1001, ANY = 0, RELAYS = -1 };
 
 static int turns = 21;
 
-static uint8_t sheet[YARD_SHEET_BYTES], buf[YARD_PLAN_BYTES], other[YARD_PLAN_BYTES];
+static uint8_t sheet[YARD_SHEET_BYTES], buf[YARD_JUDGED_BYTES], other[YARD_PLAN_BYTES], book[YARD_BOOK_BYTES], other_book[YARD_BOOK_BYTES];
 static size_t length;
 
 // RULES, "Yards to try".
@@ -100,17 +100,46 @@ static void judgements(const char *name) {
   report(name, "judge", ratio, best, other_best);
 }
 
+typedef yard_booked maker(const uint8_t *, size_t, const uint8_t *, size_t, uint8_t *, size_t);
+
+static double booking(maker *make, size_t bytes, uint8_t *to, int calls) {
+  double start = now();
+  for (int k = 0; k < calls; k++) make(sheet, length, buf, bytes, to, YARD_BOOK_BYTES);
+  return (now() - start) / calls;
+}
+
+// The plan stands in buf.
+static void books(const char *name, size_t bytes) {
+  double ratio[MOST], best = 1e9, other_best = 1e9;
+  yard_booked a = yard_book(sheet, length, buf, bytes, book, YARD_BOOK_BYTES), b = second_book(sheet, length, buf, bytes, other_book, YARD_BOOK_BYTES);
+  if (a.number || b.number || a.bytes != b.bytes || memcmp(book, other_book, a.bytes)) printf("bench: the two books differ on %s\n", name), exit(1);
+  int calls = calls_for(booking(yard_book, bytes, book, 1));
+  for (int k = 0; k < turns; k++) {
+    double x = booking(yard_book, bytes, book, calls), z = booking(second_book, bytes, other_book, calls);
+    ratio[k] = x / z, best = x < best ? x : best, other_best = z < other_best ? z : other_best;
+  }
+  report(name, "book", ratio, best, other_best);
+}
+
+// The longest plan that passes: slots without a sender behind those of the plan by probe.
+static void longest_book(void) {
+  yard_planned own = yard_by_probe(sheet, length, buf, YARD_PLAN_BYTES);
+  memset(buf, 255, 2), memset(buf + own.bytes, 0, 65535u - own.slots);
+  books("65,535 slots", own.bytes + 65535u - own.slots);
+}
+
 static void all(const char *name) {
   plans(name, "by probe", yard_by_probe, second_by_probe);
   plans(name, "by level", yard_by_level, second_by_level);
   judgements(name);
+  books(name, yard_by_probe(sheet, length, buf, YARD_PLAN_BYTES).bytes);
 }
 
 int main(int argc, char **argv) {
   if (argc == 2) turns = atoi(argv[1]);
   if (turns < 1 || turns > MOST) return printf("usage: speed [TURNS], 1 to %d\n", MOST), 2;
   printf("%-12s %-9s %10s %10s   %s\n", "yard", "work", "ours / s", "C / s", "our time / C's time: median (80% of the turns)");
-  yard(63, 0, 15, 1), all("longest");
+  yard(63, 0, 15, 1), all("longest"), longest_book();
   yard(60, 2, ANY, 60), all("sixty");
   yard(63, 1, 15, 0), all("star");
   memcpy(sheet, A, sizeof A), length = sizeof A, all("A");

@@ -1,10 +1,10 @@
 // How a gateway uses the library: it asks how long a reading takes, and how long otherwise arranged, plans the sheet in a file both ways, sends the shorter plan slot by slot, has it judged,
-// is told who spoils another plan, logs the listing, and writes the conflicts for a colouring program. gateway SHEET
+// is told who spoils another plan, hands each probe its entry of the wake book, logs the listing, and writes the conflicts for a colouring program. gateway SHEET
 #include "yard.h"
 #include <inttypes.h>
 #include <stdio.h>
 
-static uint8_t sheet[YARD_SHEET_BYTES], by_probe[YARD_PLAN_BYTES], by_level[YARD_PLAN_BYTES], text[YARD_TEXT_BYTES], graph[YARD_GRAPH_BYTES], hung[YARD_LONGEST_SHEET];
+static uint8_t sheet[YARD_SHEET_BYTES], by_probe[YARD_PLAN_BYTES], by_level[YARD_PLAN_BYTES], text[YARD_TEXT_BYTES], book[YARD_BOOK_BYTES], graph[YARD_GRAPH_BYTES], hung[YARD_LONGEST_SHEET];
 
 static void tell(const char *way, yard_planned planned) {
   printf("%s: %d slots, %d colours, %zu bytes\n", way, planned.slots, planned.colours, planned.bytes);
@@ -38,6 +38,20 @@ static void read_graph(const char *what, size_t bytes) {
   printf("%s: number %d at %" PRIu64 ", %d vertices, %d conflicts of probe 2\n", what, read.number, read.place, read.vertices, conflicts);
 }
 
+// A probe reads its two lists in the book: the entries stand in rising number of probe, each a count and slots, twice.
+static size_t read_list(const char *does, size_t at) {
+  int many = 256 * book[at] + book[at + 1];
+  printf(" %s in", does);
+  for (int k = 1; k <= many; k++) printf(" %d", 256 * book[at + 2 * k] + book[at + 2 * k + 1]);
+  return at + 2 + 2 * (size_t)many;
+}
+
+static void read_book(yard_booked booked) {
+  if (booked.number) return (void)printf("no book: refused %d at %d\n", booked.number, booked.place);
+  int probe = 2;
+  for (size_t at = 0; at < booked.bytes; probe++) printf("probe %d", probe), at = read_list("sends", at), at = read_list("listens", at), printf("\n");
+}
+
 int main(int argc, char **argv) {
   FILE *file = argc == 2 ? fopen(argv[1], "rb") : NULL;
   if (!file) return printf("usage: gateway SHEET\n"), 2;
@@ -66,6 +80,8 @@ int main(int argc, char **argv) {
   const uint8_t together[] = {0, 1, 2, 2, 4}, stranger[] = {0, 1, 2, 2, 200}; // one slot of two senders
   judge("judged with 2 and 4 in one slot", length, together, sizeof together);
   judge("judged with 2 and 200 in one slot", length, stranger, sizeof stranger);
+  read_book(yard_book(sheet, length, plan, planned.bytes, book, YARD_BOOK_BYTES));
+  read_book(yard_book(sheet, length, plan, planned.bytes, book, 3)); // too short a buffer
   fwrite(text, 1, yard_list(sheet, length, text, YARD_TEXT_BYTES), stdout); // always the plan by probe
 
   yard_drawn drawn = yard_graph_write(sheet, length, graph, YARD_GRAPH_BYTES);

@@ -1,7 +1,7 @@
-// The yard planner for gateways: telephone, arrangements, planners, judge, chooser, lister and the writer and reader of graphs, over bytes in memory.
+// The yard planner for gateways: telephone, arrangements, planners, judge, chooser, wake books, lister and the writer and reader of graphs, over bytes in memory.
 //
 // Every function takes any bytes: the caller tests nothing first, nothing is kept between calls, and nothing is allocated. Every answer is a plan, a
-// verdict, a text, a table or a numbered refusal; docs/NUMBERS.md has the numbers in plain words, docs/CONTRACTS.md says exactly what each function answers.
+// verdict, a wake book, a text, a table or a numbered refusal; docs/NUMBERS.md has the numbers in plain words, docs/CONTRACTS.md says exactly what each function answers.
 // A probe of a sheet has 0 to 15 packets (number 5 is given above 15); one with 0 is a relay, which only passes on.
 // A caller need not read more of a file than YARD_SHEET_BYTES of a sheet and YARD_JUDGED_BYTES of a plan: more changes no answer.
 //
@@ -26,6 +26,7 @@ enum {
   YARD_LONGEST_SHEET = 4161,    // room for any sheet that is written
   YARD_PLAN_BYTES = 60482,      // room for any plan of ours
   YARD_JUDGED_BYTES = 96032,    // how much of a plan, from anybody, decides its verdict
+  YARD_BOOK_BYTES = 119322,     // room for any wake book
   YARD_TEXT_BYTES = 302467,     // room for any listing
   YARD_GRAPH_BYTES = 15081,     // room for any graph's text that is written
   YARD_LIST_STACK = 112 * 1024, // stack that a call of yard_list or yard_ask wants
@@ -104,6 +105,22 @@ yard_verdict yard_judge(const uint8_t *sheet, size_t sheet_length, const uint8_t
 // Chooses between two plans for a sheet. The caller gets 1 for the first, 2 for the second: the one that passes with fewer slots, the first when equal;
 // 0 where neither passes or the sheet is refused; it names nobody, the judge says why and names the senders. Nothing is written.
 uint8_t yard_choose(const uint8_t *sheet, size_t sheet_length, const uint8_t *first, size_t first_length, const uint8_t *second, size_t second_length);
+
+// What the maker of wake books answers. Made: number and place are 0, and the book has so many bytes.
+// Refused: number, place and the names are the judge's, or number is 22 with place 0 and no names; bytes is 0.
+typedef struct {
+  uint8_t number;
+  uint16_t place;
+  uint8_t first;
+  uint8_t second;
+  size_t bytes;
+} yard_booked;
+
+// Writes the wake book of a plan that the judge passes: for each probe, 2 first, how many slots it sends in and these slots, then in how many a child sends to it
+// and these; two bytes each, high first, slots rising and counted from 1, slots without a sender too. The caller provides a sheet, a plan and a buffer that is as
+// long as the book: 4 for each probe and 4 x hops, less 2 x all packets, whatever the plan; YARD_BOOK_BYTES are enough for any. It gets the book in the first `bytes` bytes; the
+// bytes behind it stay. A refusal (22: the buffer is shorter than the book) leaves the whole buffer as it was.
+yard_booked yard_book(const uint8_t *sheet, size_t sheet_length, const uint8_t *plan, size_t plan_length, uint8_t *book, size_t book_length);
 
 // Lists a sheet: the plan by probe as text, or the line `refused N P`. The caller provides YARD_TEXT_BYTES for the text, whatever the sheet, and gets
 // the text's length; the bytes behind it stay, and no zero byte ends it. A shorter buffer is left as it was, and the answer is 0, which no text's length is.

@@ -5,7 +5,7 @@
 #include <string.h>
 #include <ucontext.h>
 
-enum { BY_PROBE, BY_LEVEL, JUDGE, CHOOSE, GRAPH_WRITE, GRAPH_READ, SPREAD, WORST, BEST, LIST, ASK, FUNCTIONS, PAINT = 0xa5, LENT = 1 << 20, LAST_SLOT = 255, MOST_SLOTS = 65535 };
+enum { BY_PROBE, BY_LEVEL, JUDGE, CHOOSE, GRAPH_WRITE, GRAPH_READ, SPREAD, WORST, BEST, BOOK, LIST, ASK, FUNCTIONS, PAINT = 0xa5, LENT = 1 << 20, LAST_SLOT = 255, MOST_SLOTS = 65535 };
 
 static uint8_t lent[LENT], sheet[YARD_SHEET_BYTES], plan[YARD_JUDGED_BYTES + 1], out[YARD_TEXT_BYTES], text[YARD_GRAPH_BYTES];
 static uint64_t rows[64];
@@ -23,6 +23,7 @@ static void call(void) {
   if (function == SPREAD) yard_ask_spread(sheet, length);
   if (function == WORST) yard_worst(sheet, length, out, room);
   if (function == BEST) yard_best(sheet, length, out, room);
+  if (function == BOOK) yard_book(sheet, length, plan, bytes, out, room);
   if (function == LIST) yard_list(sheet, length, out, room);
   if (function == ASK) yard_ask(sheet, length);
 }
@@ -39,7 +40,10 @@ static void measure(int which) {
   if (LENT - unused > deepest[which]) deepest[which] = LENT - unused;
 }
 
-static void judged(size_t size) { bytes = size, measure(JUDGE), measure(CHOOSE); }
+static void judged(size_t size) {
+  bytes = size, measure(JUDGE), measure(CHOOSE);
+  for (room = 0; room <= YARD_TEXT_BYTES; room += YARD_TEXT_BYTES) measure(BOOK);
+}
 
 static void small_plan(const char *its_bytes, size_t size) { memcpy(plan, its_bytes, size), judged(size); }
 
@@ -120,8 +124,8 @@ int main(void) {
   sheets();
   size_t most = 0;
   for (int k = 0; k < LIST; k++) most = deepest[k] > most ? deepest[k] : most;
-  printf("stack used by probe %zu, by level %zu, to judge %zu, to choose %zu, to write a graph %zu, to read one %zu, at worst and best %zu, to hang them %zu and %zu of %d bytes; to list %zu, to ask %zu of %d\n", deepest[BY_PROBE],
-    deepest[BY_LEVEL], deepest[JUDGE], deepest[CHOOSE], deepest[GRAPH_WRITE], deepest[GRAPH_READ], deepest[SPREAD], deepest[WORST], deepest[BEST], YARD_STACK, deepest[LIST], deepest[ASK], YARD_LIST_STACK);
+  printf("stack used by probe %zu, by level %zu, to judge %zu, to choose %zu, to write a graph %zu, to read one %zu, at worst and best %zu, to hang them %zu and %zu, to make a book %zu of %d bytes; to list %zu, to ask %zu of %d\n", deepest[BY_PROBE],
+    deepest[BY_LEVEL], deepest[JUDGE], deepest[CHOOSE], deepest[GRAPH_WRITE], deepest[GRAPH_READ], deepest[SPREAD], deepest[WORST], deepest[BEST], deepest[BOOK], YARD_STACK, deepest[LIST], deepest[ASK], YARD_LIST_STACK);
   int all = fits("YARD_STACK", most, YARD_STACK), list = fits("YARD_LIST_STACK", deepest[LIST] > deepest[ASK] ? deepest[LIST] : deepest[ASK], YARD_LIST_STACK);
   return all && list ? 0 : 1;
 }

@@ -10,6 +10,8 @@ yard_planned second_by_level(const uint8_t *sheet, size_t length, uint8_t *buf, 
 yard_verdict second_judge(const uint8_t *sheet, size_t length, const uint8_t *plan, size_t size);
 uint8_t second_choose(const uint8_t *sheet, size_t length, const uint8_t *first, size_t first_size, const uint8_t *second, size_t second_size);
 
+yard_booked second_book(const uint8_t *sheet, size_t length, const uint8_t *plan, size_t size, uint8_t *book, size_t room);
+
 yard_told second_ask(const uint8_t *sheet, size_t length);
 yard_spread second_spread(const uint8_t *sheet, size_t length);
 

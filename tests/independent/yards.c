@@ -7,7 +7,7 @@
 #include <stdlib.h>
 #include <string.h>
 
-enum { NODES = 65, MOST_SHEET = 5000, MOST_PLAN = 300000, MOST_TEXT = 200000, MOST_LINES = 2100, MOST_LINE = 128, FILL = 0xee, ENOUGH = 200, NUMBERS = 22 };
+enum { NODES = 65, MOST_SHEET = 5000, MOST_PLAN = 300000, MOST_TEXT = 200000, MOST_LINES = 2100, MOST_LINE = 128, FILL = 0xee, ENOUGH = 200, NUMBERS = 23 };
 
 // Where a graph's text is refused: nowhere in it, in its first line, between, in its last, or behind line 65,535.
 enum { NOWHERE, FIRST, BETWEEN, LAST, FAR, PLACES };
@@ -18,7 +18,7 @@ enum { BACKWARDS, OTHERWISE, ORDERS };
 static unsigned char sheet[MOST_SHEET], got[YARD_TEXT_BYTES + 8], want[YARD_TEXT_BYTES + 8], plan[2][MOST_PLAN], own[YARD_PLAN_BYTES];
 static unsigned char sheet_lent[MOST_SHEET], plan_lent[2][MOST_PLAN];
 static unsigned char text[MOST_TEXT], text_lent[MOST_TEXT];
-static long sheets, yards, relayed, plannings, plans, listings, asked, spreads, drawings, texts, numbers[NUMBERS], placed[NUMBERS][PLACES];
+static long sheets, yards, relayed, plannings, plans, listings, asked, spreads, books, drawings, texts, numbers[NUMBERS], placed[NUMBERS][PLACES];
 static long blamed, ordered, ordered_by[NUMBERS][ORDERS], others, shorter, shortest;
 
 // ---- chance
@@ -149,6 +149,25 @@ static yard_verdict compare_judge(size_t len, int which, size_t size) {
   return b;
 }
 
+// Known from the sheet alone: four bytes a probe and four a hop, less two a packet.
+static size_t book_length(size_t len) {
+  size_t room = second_room(sheet, len), need = room ? 4 * (size_t)sheet[0] + 2 * (room - 2) : 0;
+  for (int v = 2; room && v <= sheet[0] + 1; v++) need -= 2 * (size_t)sheet[2 * v - 2];
+  return need;
+}
+
+// The wake book of a plan, into a buffer that is one byte short, exact or longer; every byte of the buffer is compared.
+static void compare_book(size_t len, int which, size_t size, yard_verdict r) {
+  uint32_t off = rnd(4);
+  size_t need = book_length(len), room = r.number ? rnd(40) : off == 0 && need > 0 ? need - 1 : off == 1 ? need + rnd(9) : need;
+  memset(got, FILL, room + 8), memset(want, FILL, room + 8);
+  yard_booked a = yard_book(sheet, len, plan[which], size, got, room), b = second_book(sheet, len, plan[which], size, want, room);
+  books++, numbers[22] += b.number == 22;
+  if (a.number != b.number || a.place != b.place || a.first != b.first || a.second != b.second || a.bytes != b.bytes || memcmp(got, want, room + 8))
+    differ("wake book", len, room, which ? 0 : size, which ? size : 0);
+  if (r.number ? b.number != r.number || b.bytes : b.number ? b.number != 22 || room >= need : b.bytes != need) differ("length of a wake book", len, room, which ? 0 : size, which ? size : 0);
+}
+
 // What the second reading tells of the sheet must hold of every plan that passes, whoever made it.
 static yard_told told;
 
@@ -158,7 +177,9 @@ static void limits(size_t len, yard_verdict r, size_t first, size_t second) {
 
 static void compare_plans(size_t len, size_t first, size_t second) {
   lend(len, first, second);
-  limits(len, compare_judge(len, 0, first), first, 0), limits(len, compare_judge(len, 1, second), 0, second);
+  yard_verdict a = compare_judge(len, 0, first), b = compare_judge(len, 1, second);
+  limits(len, a, first, 0), limits(len, b, 0, second);
+  compare_book(len, 0, first, a), compare_book(len, 1, second, b);
   if (yard_choose(sheet, len, plan[0], first, plan[1], second) != second_choose(sheet, len, plan[0], first, plan[1], second))
     differ("chooser", len, 0, first, second);
   unchanged(len, first, second);
@@ -424,9 +445,9 @@ static void anybodys(size_t len) {
   put_count(plan[0], slots);
   lend(len, size, 0);
   yard_verdict r = compare_judge(len, 0, size);
-  unchanged(len, size, 0);
   if (r.number || r.slots != slots) differ("a plan of nobody's planner", len, 0, size, 0);
-  limits(len, r, size, 0);
+  limits(len, r, size, 0), compare_book(len, 0, size, r);
+  unchanged(len, size, 0);
   others++, shorter += slots < told.ours, shortest += slots == told.least;
 }
 
@@ -881,6 +902,8 @@ static void yards_to_try(void) {
 static void sizes(void) {
   size_t len = chain(63, 15), size = second_by_probe(sheet, len, plan[0], YARD_PLAN_BYTES).bytes;
   if (len + 2 * 2016 + 1 != YARD_SHEET_BYTES || second_room(sheet, len) != YARD_PLAN_BYTES) differ("a size of yard.h", len, YARD_PLAN_BYTES, 0, 0);
+  if (book_length(len) != YARD_BOOK_BYTES || yard_book(sheet, len, plan[0], size, got, YARD_BOOK_BYTES).bytes != YARD_BOOK_BYTES || yard_book(sheet, len, plan[0], size, got, YARD_BOOK_BYTES - 1).number != 22)
+    differ("YARD_BOOK_BYTES", len, YARD_BOOK_BYTES, size, 0);
   for (int slots = plan[0][0] * 256 + plan[0][1]; slots < 65534; slots++) plan[0][size++] = 0;
   put_count(plan[0], 65535), plan[0][size++] = 255, memset(plan[0] + size, 2, 255), size += 255;
   if (size != YARD_JUDGED_BYTES || compare_judge(len, 0, size).number != 13 || compare_judge(len, 0, size - 1).number != 11) differ("YARD_JUDGED_BYTES", len, 0, size, 0);
@@ -955,13 +978,20 @@ static void show_verdict(const char *path, const char *name, yard_verdict r) {
   printf("%s: %s %d at %d, %d slots, names %d and %d\n", path, name, r.number, r.place, r.slots, r.first, r.second);
 }
 
+static void show_book(const char *name, yard_booked r) {
+  printf("%s: book %d at %d, names %d and %d, %zu bytes: ", name, r.number, r.place, r.first, r.second, r.bytes);
+  for (size_t k = 0; k < r.bytes; k++) printf("%02x", got[k]);
+  printf("\n");
+}
+
 static void show(int argc, char **argv) {
-  size_t room = strtoul(argv[2], 0, 10), len = load(argv[3], sheet, MOST_SHEET), size[2] = {0, 0};
+  size_t asked_room = strtoul(argv[2], 0, 10), room = asked_room < sizeof got ? asked_room : sizeof got, len = load(argv[3], sheet, MOST_SHEET), size[2] = {0, 0};
   show_sheet(len, room < YARD_PLAN_BYTES ? room : YARD_PLAN_BYTES);
   for (int k = 0; k < 2 && k + 4 < argc; k++) {
     size[k] = load(argv[k + 4], plan[k], MOST_PLAN);
     yard_verdict a = yard_judge(sheet, len, plan[k], size[k]), b = second_judge(sheet, len, plan[k], size[k]);
     show_verdict(argv[k + 4], "library", a), show_verdict(argv[k + 4], "second", b);
+    show_book("library", yard_book(sheet, len, plan[k], size[k], got, room)), show_book("second", second_book(sheet, len, plan[k], size[k], got, room));
   }
   if (argc == 6)
     printf("chosen: library %d, second %d\n", yard_choose(sheet, len, plan[0], size[0], plan[1], size[1]), second_choose(sheet, len, plan[0], size[0], plan[1], size[1]));
@@ -988,7 +1018,7 @@ int main(int argc, char **argv) {
   slot_by_slot(), byte_by_byte(), long_texts();
   compare(atol(argv[2]), atol(argv[3]));
   if (yards >= 20000) enough(), enough_others(), enough_orders(), enough_places();
-  printf("%ld yards, %ld of them with relays, and %ld refused sheets, %ld plannings, %ld listings, %ld telephone answers, %ld of other arrangements and %ld judged plans agree; by number:", yards, relayed, sheets - yards, plannings, listings, asked, spreads, plans);
+  printf("%ld yards, %ld of them with relays, and %ld refused sheets, %ld plannings, %ld listings, %ld telephone answers, %ld of other arrangements, %ld judged plans and %ld wake books agree; by number:", yards, relayed, sheets - yards, plannings, listings, asked, spreads, plans, books);
   for (int k = 0; k < NUMBERS; k++) printf(" %d: %ld", k, numbers[k]);
   printf("\n%ld plans of nobody's planner keep the limits, %ld of them shorter than ours, and %ld as short as any can be", others, shorter, shortest);
   printf("\n%ld refused plans name senders, and in %ld of them another order would name others; backwards, otherwise:", blamed, ordered);

@@ -12,14 +12,14 @@ use lib.Dec.{eqb, ltb, leb}
 use lib.ListN.{length, getD}
 use borrow.Author.Tests.{le-ltb, lt-leb, eq-eqb, ne-eqb}
 use Rattle.meaning.specs.declared.Outcome.{Outcome}
-use Rattle.meaning.specs.Words.{forEach, sum}
+use Rattle.meaning.specs.Words.{forEach, sum, inTurn}
 use Rattle.meaning.specs.Sheet.{firstOf, secondOf, interfere}
 use Rattle.meaning.specs.Answer.{accepted, given, _then_, inOrder, above, pairTest}
 use Rattle.laws.proofs.Turns.{forEach-stays, some-found, sum-same}
 use Rattle.laws.proofs.Accepted.{then-goes}
 use Rattle.laws.proofs.Conflicting.{interfere-sym}
-use Rattle.arrangement.specs.Arranged.{inTurn, allPairs}
-use Rattle.arrangement.proofs.InTurn.{sum-within, inTurn-length, inTurn-at, two-length, two-first, two-second}
+use Rattle.arrangement.specs.Arranged.{allPairs}
+use Rattle.laws.proofs.InTurn.{sum-within, inTurn-length, inTurn-at, two-length, two-first, two-second}
 use Rattle.arrangement.proofs.RisingOrder.{first-less, second-less}
 
 -- a number below a sum stands in one of its parts

@@ -12,7 +12,8 @@ use Rattle.laws.proofs.Turns.{sum-same}
 use Rattle.laws.proofs.Walk.{probe-yes}
 use Rattle.limits.specs.Sent.{sent}
 use Rattle.limits.proofs.BranchesHops.{branches-hops}
-use Rattle.limits.proofs.PlanRuns.{slotsOfPlan, passed-ran}
+use Rattle.meaning.specs.Plan.{slotsOfPlan}
+use Rattle.limits.proofs.PlanRuns.{passed-ran}
 use Rattle.limits.proofs.SentByBranch.{sent-by-branch}
 use Rattle.limits.proofs.Exclusive.{Exclusive, exclusive-slots}
 

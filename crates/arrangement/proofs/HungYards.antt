@@ -3,9 +3,9 @@ use mathlib.Core.Bool.{Bool, true, false, _&&_}
 use mathlib.Core.List.{List, [], _∷_}
 use Prim.Native.Nat.{ℕ}
 use lib.Dec.{T, eqb}
-use Rattle.meaning.specs.Words.{forEach, least, sum}
+use Rattle.meaning.specs.Words.{forEach, least, sum, inTurn}
 use Rattle.meaning.specs.Sheet.{packetsOf}
-use Rattle.arrangement.specs.Arranged.{placeOf, worstSlots, chainParent, inTurn, worstSheet, bestSheet}
+use Rattle.arrangement.specs.Arranged.{placeOf, worstSlots, chainParent, worstSheet, bestSheet}
 
 abbrev pub same : List ℕ → List ℕ → Bool
 same [] [] = true

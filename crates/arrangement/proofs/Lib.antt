@@ -8,7 +8,6 @@ pub mod Placing
 pub mod Deeper
 pub mod AtWorst
 pub mod Crowded
-pub mod InTurn
 pub mod Written
 pub mod Hung
 pub mod Star

@@ -19,7 +19,8 @@ use Rattle.limits.specs.Sent.{sentIn, sent}
 use Rattle.limits.proofs.Sums.{together, together-add}
 use Rattle.limits.proofs.Sending.{passing-sent}
 use Rattle.limits.proofs.RunningSlots.{legal-listed}
-use Rattle.limits.proofs.PlanRuns.{slotsOfPlan, passed-ran}
+use Rattle.meaning.specs.Plan.{slotsOfPlan}
+use Rattle.limits.proofs.PlanRuns.{passed-ran}
 use Rattle.limits.proofs.SentByBranch.{sent-by-branch}
 use Rattle.limits.proofs.BranchesHops.{branches-hops}
 use Rattle.arrangement.specs.Arranged.{worstSlots}

@@ -16,7 +16,7 @@ use Rattle.meaning.specs.Answer.{accepted, _then_, countsTest}
 use Rattle.laws.proofs.Walk.{probe-least, probe-most}
 use Rattle.laws.proofs.Accepted.{parent-of-probe, parent-outside, packets-of-probe, packets-outside}
 use Rattle.arrangement.specs.Arranged.{records}
-use Rattle.arrangement.proofs.InTurn.{two-length, two-first, two-second}
+use Rattle.laws.proofs.InTurn.{two-length, two-first, two-second}
 
 -- the bytes of a sheet with these parents, packets and pairs
 abbrev pub written : (p : ℕ) → (parent packets : ℕ → ℕ) → (q : ℕ) → (pairs : List ℕ) → List ℕ

@@ -27,6 +27,18 @@ module _ (parent : ℕ → ℕ) (top : ℕ) where
       ap (λ (n : ℕ). reaches parent top n v) (sym none) ∙ e
 
   -- a hop
+  -- a walk that stays where it is, and is not there, never comes
+  pub stays : (left v u : ℕ) (whole : Bool) → (v ≡ top → ⊥) → u ≡ parent v → u ≡ v → reaches parent top left v ≡ whole → false ≡ whole
+  unfolding reaches
+  stays left v u whole ne at same e = sym (never left) ∙ e
+    where
+      still : parent v ≡ v
+      still = sym at ∙ same
+
+      never : (n : ℕ) → reaches parent top n v ≡ false
+      never zero = ne-eqb v top ne
+      never (suc n) = reaches-on parent top n v ne ∙ ap (reaches parent top n) still ∙ never n
+
   pub comes-on : (left v u : ℕ) (whole : Bool) → 0 < left → (v ≡ top → ⊥) → u ≡ parent v → reaches parent top left v ≡ whole → reaches parent top (left - 1) u ≡ whole
   comes-on left v u whole h ne at e =
       let more : suc (left - 1) ≡ left = omega arith in

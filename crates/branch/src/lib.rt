@@ -39,7 +39,11 @@ fn comes_to(parents: &[u8; 65], top: Probe, hops: u8, v: Probe) -> bool
         if node == end {
             return true;
         }
-        node = laws::number_at(parents, node) as usize;
+        let next = laws::number_at(parents, node) as usize;
+        if next == node {
+            return false; // as at 0, behind the gateway: the walk stays there
+        }
+        node = next;
         left -= 1;
     }
     node == end
@@ -178,6 +182,13 @@ fn most_weight(p: u8, parents: [u8; 65], packets: [u8; 65], what: Weighed) -> u1
         k += 1;
     }
     best
+}
+
+// The packets of the branch of top.
+pub fn in_branch(p: u8, parents: [u8; 65], packets: [u8; 65], top: Probe) -> u16
+    ensures { λ r. ⌜ r ≡ branchPackets p (byNode parents) (byNode packets) (top .0) ⌝ }
+{
+    branch(p, &parents, &packets, top)
 }
 
 // The packets of the heaviest branch, 0 with no probes.

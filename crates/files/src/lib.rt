@@ -1,4 +1,4 @@
-// Files by the program's arguments: a sheet, a plan or a text that is read, and a plan or a text that is written whole or not at all; what is said about them, and the exit status.
+// Files by the program's arguments: a sheet, a plan or a text that is read, and a plan, a book, a text or a sheet that is written whole or not at all; what is said about them, and the exit status.
 ghost use mathlib.Core.Path.{_≡_};
 ghost use Prim.Native.Nat.{min};
 ghost use lib.ListN.{length, replicate};
@@ -147,10 +147,10 @@ pub fn tell(status: u8) -> u8
     told
 }
 
-// Where the starting script says what a plan or a text is to go to: the sheet itself, or what is written straight; else to a regular file or a new one.
+// Where the starting script says what is to be written goes to: what is read itself, or what is written straight; else to a regular file or a new one.
 const OUTPUT_IS: usize = 1;
 
-const THE_SHEET: u8 = b'=';
+const WHAT_IS_READ: u8 = b'=';
 
 const STRAIGHT: u8 = b'>';
 
@@ -322,7 +322,7 @@ fn output() -> u8 {
     word[0]
 }
 
-// Writes a plan or a text to the file that argument i names, which is never the sheet; answers whether it could, after saying so where not.
+// Writes a plan, a book or a text to the file that argument i names, which is never the sheet nor a book's plan; answers whether it could, after saying so where not.
 fn is_written(to: i32, i: usize, bytes: &[u8]) -> bool {
     let mut path = io::buffer();
     let n = os::arg(i, &mut path);
@@ -331,10 +331,10 @@ fn is_written(to: i32, i: usize, bytes: &[u8]) -> bool {
         return false;
     }
     let kind = output();
-    if kind == THE_SHEET {
+    if kind == WHAT_IS_READ {
         say_named(
             STDERR_FILENO,
-            b"the sheet is not written over: ",
+            b"what is read is not written over: ",
             &path[..n],
         );
         say_named(to, b"unwritable ", &path[..n]);

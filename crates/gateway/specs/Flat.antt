@@ -1,7 +1,8 @@
--- The answers of RULES, "Numbers returned", "The telephone", "Worst and best" and "A graph as text", as C sees them.
+-- The answers of RULES, "Numbers returned", "The wake book", "The telephone", "Worst and best" and "A graph as text", as C sees them.
 use Prim.Native.Nat.{ℕ}
 use Rattle.meaning.specs.declared.Planned.{Planned}
 use Rattle.meaning.specs.declared.Judgement.{Judgement}
+use Rattle.meaning.specs.declared.Booked.{Booked}
 use Rattle.meaning.specs.declared.Told.{Told}
 use Rattle.meaning.specs.declared.Choice.{Choice}
 use Rattle.meaning.specs.declared.Choice.the-variants.{Neither, First, Second}
@@ -10,6 +11,7 @@ use Rattle.graph.specs.declared.Drawn.{Drawn}
 use Rattle.graph.specs.declared.Graph.{Graph}
 use Rattle.gateway.specs.declared.YardPlanned.{YardPlanned}
 use Rattle.gateway.specs.declared.YardVerdict.{YardVerdict}
+use Rattle.gateway.specs.declared.YardBooked.{YardBooked}
 use Rattle.gateway.specs.declared.YardTold.{YardTold}
 use Rattle.gateway.specs.declared.YardSpread.{YardSpread}
 use Rattle.gateway.specs.declared.YardDrawn.{YardDrawn}
@@ -31,6 +33,12 @@ flatVerdict r =
       first = r .names .first;
       second = r .names .second;
     }
+
+-- "The wake book": number, place, both names and bytes written
+abbrev pub flatBooked : Booked → YardBooked
+flatBooked r =
+    let names = r .names in
+    record { number = r .outcome .number; place = r .outcome .place; first = names .first; second = names .second; bytes = r .bytes }
 
 -- Demand 3, on the telephone: number, place, the slots at least, in our plan and at most, and how many times anybody's
 abbrev pub flatTold : Told → YardTold

@@ -1,4 +1,4 @@
-// The library for gateways: telephone, arrangements, planners, judge, chooser, lister and graphs over pointers and lengths, as include/yard.h declares them.
+// The library for gateways: telephone, arrangements, planners, judge, chooser, wake books, lister and graphs over pointers and lengths, as include/yard.h declares them.
 ghost use mathlib.Core.Path.{_≡_};
 ghost use mathlib.Core.Bool.{false, cond};
 ghost use Prim.Native.Nat.{_+_, _^_, _<_};
@@ -7,16 +7,18 @@ ghost use Rattle.meaning.specs.Plan.{front};
 ghost use Rattle.meaning.specs.Rounds.{byProbe, byLevel};
 ghost use Rattle.meaning.specs.Answer.{planMade};
 ghost use Rattle.meaning.specs.Judge.{judgement, choice};
+ghost use Rattle.meaning.specs.Book.{bookMade};
 ghost use Rattle.meaning.specs.Telephone.{asked};
 ghost use Rattle.arrangement.specs.Arranged.{spreadOf, worstSheet, bestSheet, arranged};
 ghost use Rattle.listing.specs.Listed.{listedLength, listedIn};
 ghost use Rattle.graph.specs.Drawing.{graphMade};
 ghost use Rattle.graph.specs.Reading.{graphRead};
-ghost use Rattle.gateway.specs.Flat.{flatPlanned, flatVerdict, flatTold, flatSpread, flatDrawn, flatGraph, choiceNumber};
+ghost use Rattle.gateway.specs.Flat.{flatPlanned, flatVerdict, flatBooked, flatTold, flatSpread, flatDrawn, flatGraph, choiceNumber};
 ghost use Rattle.gateway.specs.Rows.{word, rowWords};
 use arrangement::Spread;
 use graph::Drawn;
 use graph::Graph;
+use meaning::Booked;
 use meaning::Choice;
 use meaning::Judgement;
 use meaning::Planned;
@@ -40,6 +42,16 @@ pub struct YardVerdict {
     pub slots: u16,
     pub first: u8,
     pub second: u8,
+}
+
+// What the maker of wake books answers, with C's layout.
+#[repr(C)]
+pub struct YardBooked {
+    pub number: u8,
+    pub place: u16,
+    pub first: u8,
+    pub second: u8,
+    pub bytes: usize,
 }
 
 // What the telephone answers, with C's layout.
@@ -103,6 +115,20 @@ fn verdict(r: Judgement) -> YardVerdict
         slots: judged.slots,
         first: names.first,
         second: names.second,
+    }
+}
+
+fn booked(r: Booked) -> YardBooked
+    ensures { λ f. ⌜ f ≡ flatBooked r ⌝ }
+{
+    let outcome = r.outcome;
+    let names = r.names;
+    YardBooked {
+        number: outcome.number,
+        place: outcome.place,
+        first: names.first,
+        second: names.second,
+        bytes: r.bytes,
     }
 }
 
@@ -264,6 +290,16 @@ pub extern "C" fn yard_choose(sheet: &[u8], first: &[u8], second: &[u8]) -> u8
         Choice::First => 1,
         Choice::Second => 2,
     }
+}
+
+// The wake book of a plan.
+#[no_mangle]
+pub extern "C" fn yard_book(sheet: &[u8], plan: &[u8], book: &mut [u8]) -> YardBooked
+    ensures answer { λ r. ⌜ r ≡ flatBooked (bookMade (now (sheet .entry)) (now (plan .entry)) (length (now (book .entry))) .answer) ⌝ }
+    ensures buffer { λ _. ⌜ now (book .exit) ≡ front (now (book .entry)) (bookMade (now (sheet .entry)) (now (plan .entry)) (length (now (book .entry))) .written) ⌝ }
+{
+    let r = book::wake_book(sheet, plan, book);
+    booked(r)
 }
 
 // The lister's text.

@@ -229,7 +229,7 @@ module _ (s plan : Bytes) where
     unfolding judgement
     accepted-names = ap (λ (b : Bool). cond b (planNames s plan (outcome .number)) nobody) ok
 
-    else-nobody : (outcome .number < 12) ⊎ (15 < outcome .number) → judgement s plan .names ≡ nobody
+    pub else-nobody : (outcome .number < 12) ⊎ (15 < outcome .number) → judgement s plan .names ≡ nobody
     unfolding planNames planNamesBy
     else-nobody out = accepted-names ∙ names-else (probeCount s) (table s) _ _ (outcome .number) out
 

@@ -2,6 +2,7 @@
 pub mod Turns
 pub mod Few
 pub mod Lists
+pub mod InTurn
 pub mod Walk
 pub mod First
 pub mod Moving

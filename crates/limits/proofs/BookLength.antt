@@ -13,26 +13,21 @@ use Rattle.meaning.specs.Yard.{isProbe, branchPackets}
 use Rattle.meaning.specs.Sheet.{probeCount, parentOf, packetsOf, hops, allPackets}
 use Rattle.meaning.specs.Answer.{isAccepted}
 use Rattle.meaning.specs.Judge.{judge}
+use Rattle.meaning.specs.Book.{sends, hears}
 use Rattle.meaning.specs.Legal.{heldFirst}
 use Rattle.laws.proofs.Turns.{sum-same, sum-constant}
 use Rattle.laws.proofs.Walk.{probe-yes}
 use Rattle.limits.specs.Sent.{inflow, sent}
 use Rattle.limits.proofs.Sums.{sum-add, sum-times, together-itself}
-use Rattle.limits.proofs.PlanRuns.{slotsOfPlan, passed-ran}
+use Rattle.meaning.specs.Plan.{slotsOfPlan}
+use Rattle.limits.proofs.PlanRuns.{passed-ran}
 use Rattle.limits.proofs.SentByBranch.{sent-by-branch}
 use Rattle.limits.proofs.Exclusive.{Exclusive}
 use Rattle.limits.proofs.Fewest.{children-exclusive, children-send}
 use Rattle.limits.proofs.BranchesHops.{branches-hops, inflows-hops}
-use Rattle.limits.proofs.SlotsOfSome.{someSender, slotsWhere, slots-of-some}
+use Rattle.limits.proofs.SlotsOfSome.{slots-of-some}
 
--- the numbers of the slots in which v sends, and of those in which a child of v does
-abbrev pub sends : (plan : List ℕ) → ℕ → List ℕ
-sends plan v = slotsWhere (someSender (λ u. eqb u v)) 1 (slotsOfPlan plan)
-
-abbrev pub hears : (s plan : List ℕ) → ℕ → List ℕ
-hears s plan v = slotsWhere (someSender (λ u. eqb (parentOf s u) v)) 1 (slotsOfPlan plan)
-
-alone-exclusive : (s : List ℕ) (v : ℕ) → Exclusive s (λ u. eqb u v)
+pub alone-exclusive : (s : List ℕ) (v : ℕ) → Exclusive s (λ u. eqb u v)
 alone-exclusive s v x y hx hy other ex ey = absurd (other (eqb-true x v ex ∙ sym (eqb-true y v ey)))
 
 module _ (s plan : List ℕ) (h : isAccepted (judge s plan .outcome) ≡ true) where

@@ -7,7 +7,7 @@ use mathlib.Core.Logic.{_⊎_, inl, inr, ⊎-elim}
 use Prim.Native.Nat.{ℕ, zero, suc, _+_, _*_, _≤_, _<_}
 use native.Mathlib.Decide.{decLt}
 use native.Mathlib.Omega.{arith}
-use borrow.Author.Tests.{leb-true, leb-false, lt-ltb, le-ltb}
+use borrow.Author.Tests.{ltb-false, leb-true, leb-false, lt-ltb, le-ltb}
 use lib.Dec.{ltb, leb}
 use lib.ListN.{length, getD, take, drop, length-drop}
 use lib.Seq.{take-all, take-take, getD-take, length-take-le}
@@ -23,6 +23,7 @@ use Rattle.meaning.specs.Legal.{heldFirst}
 use Rattle.meaning.specs.Answer.{accepted, isAccepted, given, _then_, sheetTest}
 use Rattle.meaning.specs.Judge.{Judging, slotTest, slotJudged, slotsJudged, planJudgedBy, planJudged, judge, slotNames, planNamesBy, planNames, judgement}
 use Rattle.laws.proofs.Turns.{length-tab}
+use Rattle.laws.proofs.Accepted.{then-accepted, given-accepted}
 use Rattle.laws.proofs.Moving.{weigh-moved, weigh-up, length-moved}
 use Rattle.laws.proofs.Running.{each-at, at-each}
 use Rattle.laws.proofs.Passed.{Passed, passed, Passes, Refused, turn}
@@ -111,6 +112,21 @@ module _ (s : List ℕ) (ok : isAccepted (sheetTest s) ≡ true) where
       go : (j : ℕ) (now : Judging) (b : Bool) → Near j now → Near (suc j) (cond b (step plan (j + 1) now) now)
       go j now true so = near-judged plan j now so
       go j now false so = record { long = so .long; near = omega (arith, so .near) }
+
+  -- a passed plan ends behind its last slot
+  pub passed-short : (plan : List ℕ) → ((k : ℕ) → getD plan k 0 < 256) → isAccepted (judge s plan .outcome) ≡ true → length plan ≤ 95777
+  unfolding judge planJudged planJudgedBy
+  passed-short plan bytes h =
+      let slots = then-accepted _ _ (then-accepted _ _ (then-accepted _ _ h .1) .1) in
+      let end : Judging = judged plan (twoAt plan 0) in
+      omega (
+        arith,
+        ltb-false (end .at) (length plan) (given-accepted 16 (twoAt plan 0) (ltb (end .at) (length plan)) refl (then-accepted _ _ (slots .1) .0)),
+        near-all plan (twoAt plan 0) .near,
+        hops-limit s ok,
+        bytes 0,
+        bytes 1,
+      )
 
   module _ (plan : List ℕ) (bytes : (k : ℕ) → getD plan k 0 < 256) (n : ℕ) (enough : decidingPlan ≤ n) (more : n < length plan) where
     abbrev first : List ℕ
@@ -239,7 +255,7 @@ module _ (s : List ℕ) (ok : isAccepted (sheetTest s) ≡ true) where
         ap₂ (λ (v : Verdict) (n : Names). record { verdict = v; names = n }) (without-names s first ∙ same-verdict ∙ sym (without-names s plan)) same-names
 
 -- the first bytes decide an answer that is the same for every plan where the sheet is refused, and for them and a longer plan where it is accepted
-decided-by : {A : Type 0} (answer : List ℕ → A) (refusal : A) (s plan : List ℕ)
+pub decided-by : {A : Type 0} (answer : List ℕ → A) (refusal : A) (s plan : List ℕ)
     → (isAccepted (sheetTest s) ≡ false → (l : List ℕ) → answer l ≡ refusal)
     → (isAccepted (sheetTest s) ≡ true → decidingPlan < length plan → answer (take decidingPlan plan) ≡ answer plan)
     → answer (take decidingPlan plan) ≡ answer plan

@@ -20,7 +20,8 @@ use Rattle.limits.specs.Sent.{sentIn, sent}
 use Rattle.limits.proofs.Sums.{together, together-add, together-none}
 use Rattle.limits.proofs.Sending.{passing-sent}
 use Rattle.limits.proofs.RunningSlots.{legal-listed}
-use Rattle.limits.proofs.PlanRuns.{slotsOfPlan, passed-ran}
+use Rattle.meaning.specs.Plan.{slotsOfPlan}
+use Rattle.limits.proofs.PlanRuns.{passed-ran}
 
 -- any two different probes of a sheet that pass the test conflict
 abbrev pub Exclusive : (s : List ℕ) → (test : ℕ → Bool) → Type 0

@@ -22,7 +22,8 @@ use Rattle.limits.proofs.Sums.{sum-zero, together, together-itself, tog
 use Rattle.limits.proofs.Sending.{inflow-same}
 use Rattle.limits.proofs.Branch.{branch-own, branch-all}
 use Rattle.limits.proofs.Lag.{most-over}
-use Rattle.limits.proofs.PlanRuns.{slotsOfPlan, passed-ran}
+use Rattle.meaning.specs.Plan.{slotsOfPlan}
+use Rattle.limits.proofs.PlanRuns.{passed-ran}
 use Rattle.limits.proofs.SentByBranch.{sent-by-branch}
 use Rattle.limits.proofs.Exclusive.{Exclusive, exclusive-slots}
 use Rattle.limits.proofs.AcceptedYard as Yard

@@ -1,10 +1,10 @@
--- The hops of an accepted sheet are at most 30,240: every level up to the deepest has a probe, so that at most 63 - j probes stand above level j; a level
--- is the number of levels below it, and so all levels together are at most 63 + 62 + .. + 1 = 2,016, with at most 15 packets each.
+-- The hops of an accepted sheet are at most 30,240: every level up to the deepest has a probe, so that of p probes at most p - j stand above level j; a
+-- level is the number of levels below it, and so all levels together are at most p + .. + 2 + 1, or 2,016 of 63 probes, with at most 15 packets each.
 use mathlib.Core.Path.{_≡_, refl, ap}
 use mathlib.Core.Bool.{Bool, true, cond}
 use mathlib.Core.List.{List}
-use Prim.Native.Nat.{ℕ, zero, suc, _+_, _-_, _*_, _≤_, _<_}
-use native.Mathlib.Nat.{le-refl, mul-le-mul}
+use Prim.Native.Nat.{ℕ, zero, suc, _+_, _*_, _≤_, _<_}
+use native.Mathlib.Nat.{le-refl, mul-add, mul-suc, suc-mul, mul-le-mul}
 use native.Mathlib.Decide.{decLt}
 use native.Mathlib.Omega.{arith}
 use lib.Dec.{leb}
@@ -15,10 +15,10 @@ use Rattle.meaning.specs.Colour.{depth}
 use Rattle.meaning.specs.Answer.{isAccepted, sheetTest}
 use Rattle.laws.proofs.Turns.{sum-same, sum-least, sum-constant}
 use Rattle.laws.proofs.Walk.{probe-yes}
-use Rattle.laws.proofs.Accepted.{accepted-yard}
+use Rattle.laws.proofs.Accepted.{accepted-yard, pairs-of-few}
 use Rattle.laws.proofs.Grounds.{few-probes, level-most}
 use Rattle.laws.proofs.Levels.{level-deep}
-use Rattle.limits.proofs.Sums.{sum-zero, sum-swap, sum-times}
+use Rattle.limits.proofs.Sums.{sum-zero, sum-add, sum-swap, sum-times}
 use Rattle.limits.proofs.LevelLine.{fromLine, line-parts, line-some, from-first}
 
 -- a level is the number of levels below it
@@ -45,9 +45,10 @@ counts l (suc n) h = go (decLt n l) (counts l n)
     go (yes k) before = omega (arith, all-under l n (omega arith), under-yes l n k)
     go (no k) before = omega (arith, before (omega arith), under-no l n (omega arith))
 
-steps : sum 63 (λ j. 63 - j) ≡ 2016
+steps : (n : ℕ) → 2 * sum n (λ j. j) + n ≡ n * n
 unfolding sum
-steps = refl
+steps zero = refl
+steps (suc n) = omega (arith, steps n, mul-suc (suc n) n, suc-mul n n)
 
 module _ (s : List ℕ) (ok : isAccepted (sheetTest s) ≡ true) where
   -- the probes above level j
@@ -70,23 +71,26 @@ module _ (s : List ℕ) (ok : isAccepted (sheetTest s) ≡ true) where
         ap (fromLine s ok (λ _. 1)) next,
       )
 
-  above-most : (j : ℕ) → above j ≤ 63 - j
-  above-most j = go (decLt j (depth s))
+  above-most : (j : ℕ) → j < probeCount s → above j + j ≤ probeCount s
+  above-most j h = go (decLt j (depth s))
     where
-      go : Dec (j < depth s) → above j ≤ 63 - j
-      go (yes l) = omega (arith, above-few j (omega arith), few-probes s ok)
+      go : Dec (j < depth s) → above j + j ≤ probeCount s
+      go (yes l) = above-few j (omega arith)
       go (no l) = omega (arith, above-deepest j (omega arith))
 
   -- all levels together
-  levels-most : sumProbes (probeCount s) (levelOf s) ≤ 2016
+  pub levels-most : 2 * sumProbes (probeCount s) (levelOf s) ≤ probeCount s * (probeCount s + 1)
   levels-most =
+      let p : ℕ = probeCount s in
       omega (
         arith,
-        sum-same (probeCount s) (λ k. sum 63 (under (levelOf s (k + 2)))) (λ k. levelOf s (k + 2))
-            (λ k _. counts (levelOf s (k + 2)) 63 (omega (arith, level-most s ok (k + 2), few-probes s ok))),
-        sum-swap (probeCount s) 63 (λ k. under (levelOf s (k + 2))),
-        sum-least 63 above (λ j. 63 - j) (λ j _. above-most j),
-        steps,
+        sum-same p (λ k. sum p (under (levelOf s (k + 2)))) (λ k. levelOf s (k + 2)) (λ k _. counts (levelOf s (k + 2)) p (level-most s ok (k + 2))),
+        sum-swap p p (λ k. under (levelOf s (k + 2))),
+        sum-add p above (λ j. j),
+        sum-least p (λ j. above j + j) (λ _. p) above-most,
+        sum-constant p p,
+        steps p,
+        mul-add p p 1,
       )
 
   pub hops-limit : hops s ≤ 30240
@@ -100,4 +104,5 @@ module _ (s : List ℕ) (ok : isAccepted (sheetTest s) ≡ true) where
             (le-refl (levelOf s (k + 2)))),
         sum-times (probeCount s) 15 (λ k. levelOf s (k + 2)),
         levels-most,
+        pairs-of-few (probeCount s) (few-probes s ok),
       )

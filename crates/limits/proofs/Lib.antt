@@ -27,3 +27,8 @@ pub mod Tops
 pub mod BranchesHops
 pub mod SlotsOfSome
 pub mod BookLength
+pub mod AmongSlots
+pub mod BookRoom
+pub mod BookReads
+pub mod BookDecided
+pub mod LongestBook

@@ -8,7 +8,7 @@ use lib.ListN.{length}
 use Rattle.meaning.specs.Words.{forEach}
 use Rattle.meaning.specs.Sheet.{twoAt, probeCount, parentOf}
 use Rattle.meaning.specs.Conflict.{entry, conflictTable}
-use Rattle.meaning.specs.Plan.{sendersAt, slotsFrom}
+use Rattle.meaning.specs.Plan.{sendersAt, slotsFrom, slotsOfPlan}
 use Rattle.meaning.specs.Rounds.{outside, heldAfter}
 use Rattle.meaning.specs.Answer.{isAccepted, sheetTest}
 use Rattle.meaning.specs.Judge.{Judging, slotJudged, slotsJudged, planJudgedBy, planJudged, judge}
@@ -53,10 +53,6 @@ module _ (s : List ℕ) (ok : isAccepted (sheetTest s) ≡ true) (plan : List �
           ⊎-elim (λ (pass : Next k). next-runs k e pass (before e))
           (λ (refuses : Refused (probeCount s) (parentOf s) (entry (conflictTable s)) plan (k + 1) (now k)). not-both q (refuses .refused))
           (turn (probeCount s) (parentOf s) (entry (conflictTable s)) plan (k + 1) (now k))
-
--- the slots that stand in a plan's bytes
-abbrev pub slotsOfPlan : List ℕ → List (List ℕ)
-slotsOfPlan plan = slotsFrom plan 2 (twoAt plan 0)
 
 -- what the slots of a passed plan do: the sheet is accepted, they run, they bring every packet in, and the judge has counted them
 pub record Ran (s plan : List ℕ) : Type 0 where

@@ -24,7 +24,8 @@ use Rattle.limits.specs.Sent.{sent}
 use Rattle.limits.proofs.Served.{never-ahead}
 use Rattle.limits.proofs.Serving.{after}
 use Rattle.limits.proofs.RunningSlots.{one-slot-more}
-use Rattle.limits.proofs.PlanRuns.{slotsOfPlan, passed-ran}
+use Rattle.meaning.specs.Plan.{slotsOfPlan}
+use Rattle.limits.proofs.PlanRuns.{passed-ran}
 use Rattle.limits.proofs.SentByBranch.{sent-by-branch}
 use Rattle.limits.proofs.MostByProbe.{by, serves-probe, rounds-enough}
 use Rattle.limits.proofs.ColoursFew.{colours-degree}

@@ -18,7 +18,8 @@ use Rattle.laws.proofs.Grounds.{packets-read}
 use Rattle.limits.specs.Sent.{sent}
 use Rattle.limits.proofs.Branch.{only-branch}
 use Rattle.limits.proofs.RunningSlots.{runs-balance}
-use Rattle.limits.proofs.PlanRuns.{slotsOfPlan, passed-ran}
+use Rattle.meaning.specs.Plan.{slotsOfPlan}
+use Rattle.limits.proofs.PlanRuns.{passed-ran}
 use Rattle.limits.proofs.AcceptedYard as Yard
 
 module _ (s : List ℕ) (ok : isAccepted (sheetTest s) ≡ true) (slots : List (List ℕ)) (runs : Runs s (heldFirst s) slots)

@@ -12,6 +12,7 @@ use Rattle.meaning.specs.Words.{some, sum, count}
 use Rattle.meaning.specs.Sheet.{probeCount, parentOf}
 use Rattle.meaning.specs.Rounds.{moved}
 use Rattle.meaning.specs.Answer.{isAccepted, sheetTest}
+use Rattle.meaning.specs.Book.{someSender, slotsWhere}
 use Rattle.meaning.specs.Legal.{Runs}
 use Rattle.laws.proofs.Turns.{some-where, some-none}
 use Rattle.laws.proofs.Moving.{weighAll}
@@ -21,15 +22,6 @@ use Rattle.limits.proofs.Sums.{together, together-add, together-none}
 use Rattle.limits.proofs.Sending.{passing-sent}
 use Rattle.limits.proofs.RunningSlots.{legal-listed}
 use Rattle.limits.proofs.Exclusive.{Exclusive, one-passes}
-
--- some sender of a slot passes the test
-abbrev pub someSender : (test : ℕ → Bool) → (slot : List ℕ) → Bool
-someSender test slot = some (length slot) (λ i. test (getD slot i 0))
-
--- the numbers of the slots that pass, rising, where the first slot has the number `at`
-unfoldable pub slotsWhere : (passes : List ℕ → Bool) → (at : ℕ) → List (List ℕ) → List ℕ
-slotsWhere passes at [] = []
-slotsWhere passes at (slot ∷ slots) = cond (passes slot) (at ∷ []) [] ++ slotsWhere passes (at + 1) slots
 
 length-one : (b : Bool) (at : ℕ) → length (cond b (at ∷ []) []) ≡ cond b 1 0
 length-one true at = refl

@@ -14,13 +14,13 @@ use Rattle.lines.specs.Line.{Put}
 use Rattle.lines.proofs.Putting.{put-none, put-more}
 use Rattle.lines.proofs.Lined.{sender-length, slot-length}
 
-senders-append : (xs ys : List ℕ) → sendersText (xs ++ ys) ≡ sendersText xs ++ sendersText ys
+pub senders-append : (xs ys : List ℕ) → sendersText (xs ++ ys) ≡ sendersText xs ++ sendersText ys
 unfolding sendersText
 senders-append [] ys = refl
 senders-append (x ∷ xs) ys =
     ap (λ (l : List ℕ). said "" x ++ l) (senders-append xs ys) ∙ sym (append-assoc (said "" x) (sendersText xs) (sendersText ys))
 
-senders-one : (v : ℕ) → sendersText (v ∷ []) ≡ said "" v
+pub senders-one : (v : ℕ) → sendersText (v ∷ []) ≡ said "" v
 unfolding sendersText
 senders-one v = append-nil (said "" v)
 

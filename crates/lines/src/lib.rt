@@ -24,7 +24,7 @@ fn put_text(bytes: &[u8], out: &mut [u8], at: usize) -> usize
 }
 
 // How many digits a number has, of which at most so many are said.
-fn digits(most: u8, n: u64) -> u8
+pub fn digits(most: u8, n: u64) -> u8
     ensures count { λ r. ⌜ r ≡ length (decimal most n) ⌝ }
     ensures few { λ r. ⌜ r ≤ most ⌝ }
 {

@@ -1,2 +1,4 @@
 -- The definitions, computed.
+pub mod RowBytes
 pub mod Yards
+pub mod Books

@@ -1,11 +1,11 @@
 -- RULES, "Yards to try": the yards that are proved, as rows of one table under one claim, computed from the definitions. For each
 -- number there is its least case and the case beside it, for each two tests an input to which both apply. What takes few steps stands first: a wrong
 -- definition is then refused soon, and one claim has no more than fifty million steps.
-use mathlib.Core.Bool.{Bool, true, false, cond, _&&_}
+use mathlib.Core.Bool.{Bool, true, false, _&&_}
 use mathlib.Core.List.{List, [], _∷_, _++_}
-use Prim.Native.Nat.{ℕ, zero, suc, _+_, _-_, _*_}
-use Prim.Native.String.{String, [] as end, _∷_ as _and_}
-use lib.Dec.{T, eqb, ltb}
+use Prim.Native.Nat.{ℕ, suc, _+_}
+use Prim.Native.String.{String}
+use lib.Dec.{T, eqb}
 use lib.ListN.{take, drop, replicate}
 use Rattle.meaning.specs.declared.Outcome.{Outcome}
 use Rattle.meaning.specs.declared.Planned.{Planned}
@@ -25,28 +25,7 @@ use Rattle.meaning.specs.Answer.{accepted, _then_, inOrder, probeTest, w
 use Rattle.meaning.specs.Judge.{Judging, slotTest, twoNames, slotNames, slotTested, slotJudged, slotsJudged, planJudgedBy, planJudged, judge, planNamesBy, planNames, judgement, choice, handedBack}
 use Rattle.meaning.specs.Lister.{text, decimal, numbersLine, sendersText, refusalLine, slotLine, slotLines, list, listing}
 use Rattle.meaning.specs.Telephone.{timesAny, asked}
-
--- a sheet, a plan or a buffer as RULES writes it: two digits a byte, one space between
-digit : ℕ → ℕ
-digit c = cond (ltb c 58) (c - 48) (c - 87)
-
-pairs : List ℕ → List ℕ
-pairs [] = []
-pairs (a ∷ []) = []
-pairs (a ∷ b ∷ []) = (16 * digit a + digit b) ∷ []
-pairs (a ∷ b ∷ c ∷ rest) = (16 * digit a + digit b) ∷ pairs rest
-
-hex : String → List ℕ
-hex written = pairs (text written)
-
--- a text, so many times, in front of another
-many : ℕ → String → String → String
-many zero piece rest = rest
-many (suc k) piece rest = before piece (many k piece rest)
-  where
-    before : String → String → String
-    before end rest = rest
-    before (letter and more) rest = letter and before more rest
+use Rattle.meaning.proofs.RowBytes.{digit, pairs, hex, many, same}
 
 -- what a row says of the sheet that it begins with. `tested` gives number and place. `conflicts` gives for each probe those that it conflicts
 -- with, `level-conflicts` the same of levels. A planner's row gives the length of the buffer lent, whose bytes are all `ee`; then number, place, colours, slots and bytes written; then
@@ -95,12 +74,6 @@ names r = r .first ∷ r .second ∷ []
 
 told : Told → List ℕ
 told r = r .outcome .number ∷ r .outcome .place ∷ r .least ∷ r .ours ∷ r .most ∷ r .times ∷ []
-
-same : List ℕ → List ℕ → Bool
-same [] [] = true
-same [] (y ∷ ys) = false
-same (x ∷ xs) [] = false
-same (x ∷ xs) (y ∷ ys) = eqb x y && same xs ys
 
 alike : List (List ℕ) → List (List ℕ) → Bool
 alike [] [] = true

@@ -9,6 +9,7 @@ pub mod Rounds
 pub mod Answer
 pub mod Judge
 pub mod Lister
+pub mod Book
 pub mod Telephone
 pub mod Legal
 pub mod Blame

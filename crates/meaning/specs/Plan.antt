@@ -3,6 +3,7 @@ use mathlib.Core.List.{List, [], _∷_, _++_}
 use Prim.Native.Nat.{ℕ, zero, suc, _+_, _*_, _/_, _%_}
 use lib.ListN.{length, getD, take, drop}
 use Rattle.meaning.specs.Words.{Bytes, Node, Slots}
+use Rattle.meaning.specs.Sheet.{twoAt}
 
 -- "The plan in bytes": two bytes, high first
 abbrev pub twoBytes : ℕ → Bytes
@@ -28,6 +29,10 @@ sendersAt plan at = take (getD plan at 0) (drop (at + 1) plan)
 unfoldable pub slotsFrom : (plan : Bytes) → (at : ℕ) → (many : ℕ) → Slots
 slotsFrom plan at zero = []
 slotsFrom plan at (suc left) = sendersAt plan at ∷ slotsFrom plan (nextAt plan at) left
+
+-- "The plan in bytes", read: the slots of a plan, which begin behind their number
+abbrev pub slotsOfPlan : (plan : Bytes) → Slots
+slotsOfPlan plan = slotsFrom plan 2 (twoAt plan 0)
 
 -- "The plan in bytes": the buffer that a planner wants, even where the plan turns out shorter
 abbrev pub roomFor : (hops : ℕ) → ℕ

@@ -1,4 +1,4 @@
--- The words in which the definitions are told: doing something in turn, and some, the first, the sum, the most and the list of what is below a number.
+-- The words in which the definitions are told: doing something in turn, and some, the first, the sum, the most, the list and the bytes of what is below a number.
 use mathlib.Core.Bool.{Bool, false, cond, not, _||_}
 use mathlib.Core.List.{List, [], _∷_, _++_}
 use Prim.Native.Nat.{ℕ, zero, suc, _+_, max}
@@ -56,6 +56,11 @@ most (suc k) f = max (most k f) (f k)
 unfoldable pub tab : {A : Type 0} → ℕ → (ℕ → A) → List A
 tab zero f = []
 tab (suc k) f = tab k f ++ (f k ∷ [])
+
+-- the bytes that each number below n gives, one after the other
+unfoldable pub inTurn : ℕ → (ℕ → Bytes) → Bytes
+inTurn zero bytes = []
+inTurn (suc k) bytes = inTurn k bytes ++ bytes k
 
 -- how many places a list by node has: node 0 does not exist, node 1 is the gateway, the probes are 2 to 64
 abbrev pub places : ℕ

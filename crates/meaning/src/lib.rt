@@ -11,6 +11,9 @@ pub const ANY_PLAN: usize = 60482;
 // So many bytes of a plan, from anybody, decide its verdict and whom it names.
 pub const DECIDING_PLAN: usize = 96032;
 
+// Room for any wake book.
+pub const ANY_BOOK: usize = 119322;
+
 // Room for any listing.
 pub const ANY_TEXT: usize = 302467;
 
@@ -89,6 +92,13 @@ pub const PASSED: Tested = Tested {
 pub struct Judgement {
     pub verdict: Verdict,
     pub names: Names,
+}
+
+// What the maker of wake books answers: the judge's outcome and names, or 22; the bytes are 0 on refusal.
+pub struct Booked {
+    pub outcome: Outcome,
+    pub names: Names,
+    pub bytes: usize,
 }
 
 // What the telephone answers; the last four are 0 on refusal.

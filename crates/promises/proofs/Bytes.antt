@@ -14,7 +14,7 @@ use Rattle.limits.proofs.Deciding.{verdict-decided}
 use Rattle.limits.proofs.DecidingPlan.{plan-decided, plan-judgement-decided}
 use Rattle.promises.specs.Answers.{Passes, Byte, numbers}
 
-bytes-below : (bytes : List Byte) (k : ℕ) → getD (numbers bytes) k 0 < 256
+pub bytes-below : (bytes : List Byte) (k : ℕ) → getD (numbers bytes) k 0 < 256
 unfolding numbers
 bytes-below [] k = omega arith
 bytes-below (byte ∷ bytes) zero = byte .below

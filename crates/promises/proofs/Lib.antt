@@ -5,4 +5,5 @@ pub mod Rehung
 pub mod ChosenPlan
 pub mod Bytes
 pub mod DrawnGraph
+pub mod BookKept
 pub mod Promises

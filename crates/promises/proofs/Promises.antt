@@ -1,6 +1,6 @@
--- The page of promises: what planners, judge, chooser, lister, telephone, other arrangements and the writer and reader of graphs answer for every input, by their contracts, in the words of `specs/Answers.antt` and, of graphs, `specs/Graphs.antt`.
+-- The page of promises: what planners, judge, chooser, lister, telephone, other arrangements, the maker of wake books and the writer and reader of graphs answer for every input, by their contracts, in the words of `specs/Answers.antt` and, of books and graphs, `specs/WakeBooks.antt` and `specs/Graphs.antt`.
 use mathlib.Core.Path.{_≡_}
-use mathlib.Core.Bool.{true, cond}
+use mathlib.Core.Bool.{true, false, cond}
 use mathlib.Core.List.{List, []}
 use Prim.Native.Nat.{ℕ, _+_, _-_, _*_, _≤_, _<_}
 use lib.Dec.{T, eqb}
@@ -9,11 +9,12 @@ use Rattle.meaning.specs.declared.Choice.the-variants.{Neither, First, Second}
 use Rattle.meaning.specs.Words.{Bytes, Node, Relation, some, someProbe, mostProbes}
 use Rattle.meaning.specs.Yard.{isProbe, branchPackets, hearsAndSends}
 use Rattle.meaning.specs.Sheet.{decidingSheet, probeCount, parentOf, packetsOf, hops, allPackets, heaviest, longest, slowest, leastSlots}
-use Rattle.meaning.specs.Plan.{decidingPlan, planBytes, front}
+use Rattle.meaning.specs.Plan.{decidingPlan, planBytes, front, slotsOfPlan}
 use Rattle.meaning.specs.Colour.{coloursUsed, probeColours, depth, levelColours}
-use Rattle.meaning.specs.Answer.{accepted, sheetTest, refusedPlan}
+use Rattle.meaning.specs.Answer.{accepted, isAccepted, sheetTest, refusedPlan}
 use Rattle.meaning.specs.Judge.{slotTest, slotTested, judge, nobody, judgement, choice, handedBack}
 use Rattle.meaning.specs.Lister.{list, listing}
+use Rattle.meaning.specs.Book.{among, someSender, wakeBook, anyBook, bookMade}
 use Rattle.meaning.specs.Telephone.{atMost, timesAny, asked}
 use Rattle.meaning.specs.Legal.{Good}
 use Rattle.meaning.specs.Blame.{Blames, NamesRightly}
@@ -30,7 +31,8 @@ use Rattle.limits.proofs.ColoursFew.{colours-degree}
 use Rattle.limits.proofs.NoProbes.{nothing-to-read}
 use Rattle.limits.proofs.Attained.{attains, attained}
 use Rattle.limits.proofs.Tops.{heaviest-at-top}
-use Rattle.limits.proofs.PlanRuns.{slotsOfPlan}
+use Rattle.limits.proofs.BookRoom.{book-long, room-for-any}
+use Rattle.limits.proofs.LongestBook.{chain-of-63, longest-book}
 use Rattle.arrangement.specs.Arranged.{worstSlots, spreadOf, worstSheet, bestSheet, arranged}
 use Rattle.arrangement.proofs.NoIdle.{Full}
 use Rattle.arrangement.proofs.Equal.{equal-worst}
@@ -43,6 +45,8 @@ use Rattle.graph.specs.Drawing.{graphText}
 use Rattle.readback.specs.Named.{named}
 use Rattle.readback.proofs.Drawn.{written-reads-back, refused-empty}
 use Rattle.readback.proofs.EdgeSet.{tells-edges}
+use Rattle.promises.specs.WakeBooks.{MakesBook, sendings, receivings, Rising}
+use Rattle.promises.proofs.BookKept.{book-makes, book-refuses, book-short, sendings-tell, receivings-tell, lists-rise, sendings-branch, receivings-branch, sheet-bytes-decide-book, plan-bytes-decide-book}
 use Rattle.promises.specs.Graphs.{Draws, textOf}
 use Rattle.promises.proofs.DrawnGraph.{draws, draws-nothing, draws-short}
 use Rattle.promises.specs.Answers.{Planner, probe, level, way, slotsBy, answer, after, planOf, Answers, counted, Accepted, Refused, NoRelay, Room, Short, SameProbes, Passes, Byte, numbers}
@@ -290,6 +294,61 @@ bytes-decide-judgement = judgement-decided
 
 pub bytes-decide-plan-judgement : (s : Bytes) (plan : List Byte) → judgement s (take decidingPlan (numbers plan)) ≡ judgement s (numbers plan)
 bytes-decide-plan-judgement = plan-bytes-decide-judgement
+
+-- "The wake book": every plan that the judge passes gets its book wherever there is room; every other is refused with the judge's number, place and names, and a buffer that is
+-- too short gets 22; nothing is written then
+pub book-made : (s plan buffer : Bytes) → Passes s plan → length (wakeBook s plan) ≤ length buffer
+    → MakesBook s plan buffer (record { outcome = accepted; names = nobody; bytes = length (wakeBook s plan) }) (front buffer (wakeBook s plan))
+book-made = book-makes
+
+pub book-refused : (s plan buffer : Bytes) → isAccepted (judge s plan .outcome) ≡ false
+    → MakesBook s plan buffer (record { outcome = judge s plan .outcome; names = judgement s plan .names; bytes = 0 }) buffer
+book-refused = book-refuses
+
+pub book-no-room : (s plan buffer : Bytes) → Passes s plan → length buffer < length (wakeBook s plan)
+    → MakesBook s plan buffer (record { outcome = record { number = 22; place = 0 }; names = nobody; bytes = 0 }) buffer
+book-no-room = book-short
+
+-- "The wake book": a slot, here that at place `slot` of the plan with the number slot + 1, stands among the sendings that probe k + 2 reads in the book exactly when the probe is a
+-- sender of it, and among its receivings exactly when a child of it is
+pub book-sendings : (s plan : Bytes) (k slot : ℕ) → k < probeCount s
+    → among (slot + 1) (sendings (wakeBook s plan) k) ≡ among (k + 2) (getD (slotsOfPlan plan) slot [])
+book-sendings = sendings-tell
+
+pub book-receivings : (s plan : Bytes) (k slot : ℕ) → k < probeCount s
+    → among (slot + 1) (receivings (wakeBook s plan) k) ≡ someSender (λ u. eqb (parentOf s u) (k + 2)) (getD (slotsOfPlan plan) slot [])
+book-receivings = receivings-tell
+
+-- .. both rise, so that each slot stands once, and none is below 1
+pub book-rises : (s plan : Bytes) (k : ℕ) → k < probeCount s → Rising (sendings (wakeBook s plan) k) × Rising (receivings (wakeBook s plan) k)
+book-rises = lists-rise
+
+-- "The wake book": every probe sends as often as its branch has packets, and hears its children as often as the branch has packets that are not its own
+pub book-sends-branch : (s plan : Bytes) → Passes s plan → (k : ℕ) → k < probeCount s
+    → length (sendings (wakeBook s plan) k) ≡ branchPackets (probeCount s) (parentOf s) (packetsOf s) (k + 2)
+book-sends-branch = sendings-branch
+
+pub book-hears-branch : (s plan : Bytes) → Passes s plan → (k : ℕ) → k < probeCount s
+    → length (receivings (wakeBook s plan) k) + packetsOf s (k + 2) ≡ branchPackets (probeCount s) (parentOf s) (packetsOf s) (k + 2)
+book-hears-branch = receivings-branch
+
+-- .. so the book's length is known from the sheet alone ..
+pub book-length : (s plan : Bytes) → Passes s plan → length (wakeBook s plan) + 2 * allPackets s ≡ 4 * probeCount s + 4 * hops s
+book-length = book-long
+
+-- .. and 119,322 bytes are room for any, where 22 is never given, and are wanted by the chain of 63 probes with 15 packets each
+pub book-room : (s plan : Bytes) (room : ℕ) → anyBook ≤ room → bookMade s plan room .answer .outcome ≡ judgement s plan .verdict .outcome
+book-room = room-for-any
+
+pub book-longest : (plan : Bytes) → Passes chain-of-63 plan → length (wakeBook chain-of-63 plan) ≡ anyBook
+book-longest = longest-book
+
+-- "The wake book": the first bytes of a sheet and of a plan that decide the judge's answer decide the book
+pub bytes-decide-book : (s plan : Bytes) (room : ℕ) → bookMade (take decidingSheet s) plan room ≡ bookMade s plan room
+bytes-decide-book = sheet-bytes-decide-book
+
+pub bytes-decide-plan-book : (s : Bytes) (plan : List Byte) (room : ℕ) → bookMade s (take decidingPlan (numbers plan)) room ≡ bookMade s (numbers plan) room
+bytes-decide-plan-book = plan-bytes-decide-book
 
 -- "A graph as text": every accepted sheet's graph is written wherever there is room, and what is written reads back as the sheet's conflict table, with its number of probes
 pub graph-drawn : (s buffer : Bytes) → Accepted s → length (graphText s) ≤ length buffer

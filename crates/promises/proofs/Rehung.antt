@@ -12,7 +12,7 @@ use Rattle.arrangement.proofs.AtWorst.{by-probe-worst, by-level-worst}
 use Rattle.arrangement.proofs.NoIdle.{Full, full-worst}
 use Rattle.arrangement.proofs.WorstSheet.{worst-probes, worst-packets, worst-accepted, worst-slots, worst-any}
 use Rattle.arrangement.proofs.Star.{best-probes, best-packets, best-accepted, best-slots}
-use Rattle.limits.proofs.PlanRuns.{slotsOfPlan}
+use Rattle.meaning.specs.Plan.{slotsOfPlan}
 use Rattle.promises.specs.Answers.{Planner, probe, level, slotsBy, answer, Accepted, Room, Passes, SameProbes}
 use Rattle.promises.proofs.Planning.{plans}
 

@@ -15,7 +15,7 @@ pub put-words-of : {l after bytes : List ℕ} {at end number k : ℕ} → number
     → Put l at (fitting l at (saying number)) after end
 put-words-of e words = put-same (words ∙ ap saying (sym e))
 
-pub put-unknown : {l after bytes : List ℕ} {at end number : ℕ} → 21 < number → bytes ≡ unknown → Put l at (fitting l at bytes) after end
+pub put-unknown : {l after bytes : List ℕ} {at end number : ℕ} → 22 < number → bytes ≡ unknown → Put l at (fitting l at bytes) after end
     → Put l at (fitting l at (saying number)) after end
 unfolding sayings saying
 put-unknown h words = put-same (words ∙ sym (List·getD-eq-default sayings unknown h))

@@ -9,7 +9,7 @@ use Rattle.meaning.specs.Lister.{text}
 unfoldable pub unknown : Bytes
 unknown = text "no number of docs/NUMBERS.md"
 
--- docs/NUMBERS.md, "in words": those of 1, 2, .. 21, behind those of 0; those of 12 to 15 go on from the senders that they are said of
+-- docs/NUMBERS.md, "in words": those of 1, 2, .. 22, behind those of 0; those of 12 to 15 go on from the senders that they are said of
 unfoldable pub sayings : List Bytes
 sayings =
     unknown
@@ -34,6 +34,7 @@ sayings =
     ∷ text "the edge names a vertex out of range, or one vertex twice"
     ∷ text "the p line counts other edges than there are"
     ∷ text "the buffer is shorter than the graph's text"
+    ∷ text "the buffer is shorter than the wake book"
     ∷ []
 
 -- docs/NUMBERS.md: what a refusal's number says, of whomever it is said

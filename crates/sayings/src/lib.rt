@@ -82,7 +82,7 @@ fn put_of_end(number: u8, out: &mut [u8], at: usize) -> usize
     }
 }
 
-// What 18 to 21 say of a graph's text; no proved answer has a larger number, which is not given another's words.
+// What 18 to 21 say of a graph's text, and 22 of a book's buffer; no proved answer has a larger number, which is not given another's words.
 fn put_of_graph(number: u8, out: &mut [u8], at: usize) -> usize
     requires { ⌜ 17 < number ⌝ }
     ensures { λ r. ⌜ Put (now (out .entry)) at (fitting (now (out .entry)) at (saying number)) (now (out .exit)) r ⌝ }
@@ -100,6 +100,7 @@ fn put_of_graph(number: u8, out: &mut [u8], at: usize) -> usize
         ),
         20 => lines::put_words(b"the p line counts other edges than there are", out, at),
         21 => lines::put_words(b"the buffer is shorter than the graph's text", out, at),
+        22 => lines::put_words(b"the buffer is shorter than the wake book", out, at),
         _ => lines::put_words(b"no number of docs/NUMBERS.md", out, at),
     }
 }

@@ -114,8 +114,10 @@ chosen-long choice first second =
 written-long : (outcome : Outcome) (bytes : ℕ) → Within (writtenLine outcome bytes) 102
 unfolding text writtenLine
 written-long outcome bytes =
-    let line = both (numbered {a = 7} "written" (min bytes 65535) (counted refl)) (counted {bytes = text " bytes\n"} {most = 7} refl) in
-    either (isAccepted outcome) (leb-true 20 102 refl) line (refused-long outcome)
+    let word = counted {bytes = text "written "} {most = 8} refl in
+    let digits : Within (decimal 20 bytes) 20 = record { short = digits-most 20 bytes } in
+    let line = both (both word digits) (counted {bytes = text " bytes\n"} {most = 7} refl) in
+    either (isAccepted outcome) (leb-true 35 102 refl) line (refused-long outcome)
 
 misread-long : (number place : ℕ) → Within (misreadLine number place) 117
 unfolding text misreadLine

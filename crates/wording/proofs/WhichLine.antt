@@ -7,7 +7,7 @@ use borrow.Author.Tests.{eq-eqb, ne-eqb}
 use Rattle.meaning.specs.declared.Outcome.{Outcome}
 use Rattle.meaning.specs.declared.Planned.{Planned}
 use Rattle.meaning.specs.declared.Judgement.{Judgement}
-use Rattle.meaning.specs.Lister.{text, said}
+use Rattle.meaning.specs.Lister.{text, decimal, said}
 use Rattle.wording.specs.Worded.{ofSenders, subject, oneOrTwo, refusedLine, blamedLine, plannedLine, verdictLine, writtenLine}
 use Rattle.wording.specs.Fits.{Fits}
 use Rattle.wording.proofs.Fitting.{put-nothing}
@@ -54,7 +54,7 @@ module _ (judgement : Judgement) where
   failed-line ne = rw (ne-eqb (judgement .verdict .outcome .number) 0 ne)
 
 module _ (outcome : Outcome) (bytes : ℕ) where
-  pub written-line : outcome .number ≡ 0 → writtenLine outcome bytes ≡ said "written" (min bytes 65535) ++ text " bytes\n"
+  pub written-line : outcome .number ≡ 0 → writtenLine outcome bytes ≡ text "written " ++ decimal 20 bytes ++ text " bytes\n"
   unfolding writtenLine
   written-line e = rw (eq-eqb (outcome .number) 0 e)
 

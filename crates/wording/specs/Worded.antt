@@ -79,9 +79,9 @@ unfoldable pub choiceText : Choice → (first second : Judgement) → Bytes
 choiceText choice first second =
     choiceLine choice ++ text "first: " ++ verdictLine first ++ text "second: " ++ verdictLine second
 
--- "The answers in words": what the writer of a graph answers; more bytes than 65,535, which no graph of ours has, count as 65,535
+-- "The answers in words": what is said where a text, a sheet or a book is written
 unfoldable pub writtenLine : Outcome → (bytes : ℕ) → Bytes
-writtenLine outcome bytes = cond (isAccepted outcome) (said "written" (min bytes 65535) ++ text " bytes\n") (refusedLine outcome)
+writtenLine outcome bytes = cond (isAccepted outcome) (text "written " ++ decimal 20 bytes ++ text " bytes\n") (refusedLine outcome)
 
 -- "The answers in words": the refusal of a text, whose place may have twenty digits
 unfoldable pub misreadLine : (number place : ℕ) → Bytes

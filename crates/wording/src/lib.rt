@@ -164,15 +164,16 @@ fn put_chosen(
     put_verdict(second, out, e)
 }
 
-// Puts the line of a graph's writer at a place; says where it ends.
+// Puts the line of who writes a text, a sheet or a book at a place; says where it ends.
 fn put_written(outcome: Outcome, bytes: usize, out: &mut [u8], at: usize) -> usize
     ensures { λ r. ⌜ Fits (now (out .entry)) at (writtenLine outcome bytes) (now (out .exit)) r ⌝ }
 {
     if outcome.number != 0 {
         return put_refused(outcome, out, at);
     }
-    let a = lines::put_counted(b"written ", few(bytes), out, at);
-    lines::put_words(b" bytes\n", out, a)
+    let a = lines::put_words(b"written ", out, at);
+    let b = lines::put_long(bytes as u64, out, a);
+    lines::put_words(b" bytes\n", out, b)
 }
 
 // Puts the refusal of a text at a place; says where it ends.
@@ -231,7 +232,7 @@ pub fn chosen(out: &mut [u8], choice: Choice, first: Judgement, second: Judgemen
     lines::put_words(&text[..n], out, 0)
 }
 
-// The same of the answer of a graph's writer.
+// The same of the answer of who writes a text, a sheet or a book.
 pub fn written(out: &mut [u8], outcome: Outcome, bytes: usize) -> usize
     ensures part { λ r. ⌜ (r ≤ length (now (out .exit))) × (r ≡ length (take r (now (out .exit)))) ⌝ }
     ensures answer { λ r. ⌜ r ≡ lineLength (now (out .entry)) (writtenLine outcome bytes) ⌝ }

@@ -1,4 +1,4 @@
-// The front door: answers, plans, judges, chooses, lists, draws graphs and hangs the same probes otherwise, by file names. The first word of an answer is fixed, so that a script can go by it.
+// The front door: answers, plans, judges, chooses, lists, makes wake books, draws graphs and hangs the same probes otherwise, by file names. The first word of an answer is fixed, so that a script can go by it.
 use files::ANSWERED;
 use files::FAILED;
 use files::REFUSED;
@@ -32,6 +32,7 @@ enum Command {
     Table,
     Worst,
     Best,
+    Book,
     Help,
     Version,
     Unknown,
@@ -49,8 +50,8 @@ fn slot_length() -> u16 {
 
 // The command of a word.
 fn command_named(word: &[u8]) -> Command {
-    let names = b"ask list probe level judge choose graph table worst best --help --version";
-    match grammar::place_of(names, 12, word) {
+    let names = b"ask list probe level judge choose graph table worst best book --help --version";
+    match grammar::place_of(names, 13, word) {
         0 => Command::Ask,
         1 => Command::List,
         2 => Command::ByProbe,
@@ -61,8 +62,9 @@ fn command_named(word: &[u8]) -> Command {
         7 => Command::Table,
         8 => Command::Worst,
         9 => Command::Best,
-        10 => Command::Help,
-        11 => Command::Version,
+        10 => Command::Book,
+        11 => Command::Help,
+        12 => Command::Version,
         _ => Command::Unknown,
     }
 }
@@ -74,6 +76,7 @@ fn is_complete(what: Command, count: usize) -> bool {
         Command::List => count == 4,
         Command::Table => count == 4,
         Command::Choose => count == 6 || count == 7,
+        Command::Book => count == 5 || count == 6,
         Command::Help => count == 3,
         Command::Version => count == 3,
         Command::Unknown => false,
@@ -198,6 +201,20 @@ fn judge(sheet: &[u8]) -> u8 {
     say_verdict(sheet, &plan[..n])
 }
 
+// Makes the wake book of the plan in a file: into a file where one is named, else in words.
+fn book(to: i32, sheet: &[u8]) -> u8 {
+    let mut plan = files::plan_room();
+    let got = files::read_file(to, PLAN, &mut plan);
+    if got < 0 {
+        return FAILED;
+    }
+    let n = io::count(got, &plan);
+    if os::arg_count() == 6 {
+        return books::write_book(to, SECOND, sheet, &plan[..n]);
+    }
+    books::say_book(sheet, &plan[..n])
+}
+
 // Says which of two plans was chosen, and what the judge says of each.
 fn say_choice(to: i32, sheet: &[u8], first: &[u8], second: &[u8], choice: Choice) -> u8 {
     let on_first = judge::judgement(sheet, first);
@@ -251,7 +268,7 @@ fn is_dash_argument(i: usize) -> bool {
     files::is_dash(&word[..n])
 }
 
-// Where the words go: to standard error where a plan goes to standard output.
+// Where the words go: to standard error where what is made goes to standard output.
 fn words_to(what: Command) -> i32 {
     let is_plan = match what {
         Command::ByProbe => is_dash_argument(PLAN),
@@ -260,6 +277,7 @@ fn words_to(what: Command) -> i32 {
         Command::Worst => is_dash_argument(PLAN),
         Command::Best => is_dash_argument(PLAN),
         Command::Choose => is_dash_argument(OUT),
+        Command::Book => is_dash_argument(SECOND),
         _ => false,
     };
     if is_plan {
@@ -298,6 +316,7 @@ fn answer_on(what: Command, to: i32, sheet: &[u8]) -> u8 {
         Command::Graph => texts::write_graph(to, PLAN, sheet),
         Command::Worst => hang_worst(to, sheet),
         Command::Best => hang_best(to, sheet),
+        Command::Book => book(to, sheet),
         _ => FAILED,
     }
 }
@@ -331,6 +350,7 @@ fn say_usage(to: i32, status: u8) -> u8 {
             \x20      yard level SHEET PLAN              the plan by level, into the file PLAN\n\
             \x20      yard judge SHEET PLAN              whether the plan passes, or who is to blame\n\
             \x20      yard choose SHEET PLAN PLAN [OUT]  the shorter of two plans that pass, also into the file OUT\n\
+            \x20      yard book SHEET PLAN [BOOK]        when each probe wakes, in words, or as bytes into the file BOOK\n\
             \x20      yard graph SHEET TEXT              the conflicts as a graph in the DIMACS format, into the file TEXT\n\
             \x20      yard table TEXT                    a graph's text as a table\n\
             \x20      yard worst SHEET OUT               the sheet of the worst arrangement of the same probes, into the file OUT\n\
@@ -348,7 +368,7 @@ fn run() -> u8 {
     let what = command_of(&word[..n], os::arg_count());
     match what {
         Command::Help => say_usage(STDOUT_FILENO, ANSWERED),
-        Command::Version => files::say(STDOUT_FILENO, b"yard 3.0\n", ANSWERED),
+        Command::Version => files::say(STDOUT_FILENO, b"yard 3.1\n", ANSWERED),
         Command::Unknown => say_usage(STDERR_FILENO, FAILED),
         _ => {
             if is_dash_twice() {

@@ -3,7 +3,7 @@ use mathlib.Core.Path.{_≡_, refl, sym, _∙_}
 use lib.ListN.{getD}
 use Rattle.meaning.specs.Yard.{reaches}
 use Rattle.laws.proofs.Walk.{reaches-here}
-use Rattle.branch.proofs.Walking.{comes-last, comes-on}
+use Rattle.branch.proofs.Walking.{comes-last, comes-on, stays}
 use native.Mathlib.Omega.{arith}
 use borrow.Author.Needs.{needs}
 use Rattle.branch.proofs.comes_to.Statement.{statement}
@@ -32,8 +32,13 @@ returns c =
 number-at-requires : tie.Need-number-at-requires Inv-loop μ-loop
 number-at-requires c κs = search needs
 
-cast-node-2 : tie.Need-cast-node-2 Inv-loop μ-loop
-cast-node-2 c = search needs
+cast-next : tie.Need-cast-next Inv-loop μ-loop
+cast-next c = search needs
+
+returns-2 : tie.Need-returns-2 Inv-loop μ-loop
+returns-2 c =
+    let turn = c .before .before .before .before .before .loop in
+    stays _ _ (turn .left) (turn .node) _ _ (c .before .before .before .if1 .left) (c .before .number-at .ensures) (c .if2 .taken) (turn .inv)
 
 sub-left : tie.Need-sub-left Inv-loop μ-loop
 sub-left c = search needs
@@ -43,11 +48,11 @@ loop-less c = search needs
 
 loop-again : tie.Need-loop-again Inv-loop μ-loop
 loop-again c =
-    let turn = c .before .before .before .before .loop in
-    comes-on _ _ (turn .left) (turn .node) _ _ (c .before .before .before .loop-test .taken) (c .before .before .if1 .left) (c .number-at .ensures) (turn .inv)
+    let turn = c .before .before .before .before .before .loop in
+    comes-on _ _ (turn .left) (turn .node) _ _ (c .before .before .before .before .loop-test .taken) (c .before .before .before .if1 .left) (c .before .number-at .ensures) (turn .inv)
 
-returns-2 : tie.Need-returns-2 Inv-loop μ-loop
-returns-2 c =
+returns-3 : tie.Need-returns-3 Inv-loop μ-loop
+returns-3 c =
     let turn = c .before .loop in
     comes-last _ _ (turn .left) (turn .node) _ (omega arith) (turn .inv)
 
@@ -62,8 +67,9 @@ comes-to-spec =
     loop-holds
     returns
     number-at-requires
-    cast-node-2
+    cast-next
+    returns-2
     sub-left
     loop-less
     loop-again
-    returns-2)
+    returns-3)

@@ -38,6 +38,12 @@ slice-aggregate-put-words-5 c = search needs
 put-words-requires-5 : tie.Need-put-words-requires-5
 put-words-requires-5 c κs = search needs
 
+slice-aggregate-put-words-6 : tie.Need-slice-aggregate-put-words-6
+slice-aggregate-put-words-6 c = search needs
+
+put-words-requires-6 : tie.Need-put-words-requires-6
+put-words-requires-6 c κs = search needs
+
 same-length : tie.Need-same-length
 same-length c = search needs
 
@@ -71,10 +77,17 @@ same-length-5 c = search needs
 
 returns-5 : tie.Need-returns-5
 unfolding text unknown sayings saying
-returns-5 c =
+returns-5 c = put-words-of (c .before .before .before .before .before .match .keys5) refl (c .before .before .put-words5 .ensures)
+
+same-length-6 : tie.Need-same-length-6
+same-length-6 c = search needs
+
+returns-6 : tie.Need-returns-6
+unfolding text unknown sayings saying
+returns-6 c =
     let rest = c .before .before .before .before .before in
     put-unknown {number = rest .before .before .args .number} (omega (arith, rest .match .rest, rest .before .before .pre)) refl
-    (c .before .before .put-words5 .ensures)
+    (c .before .before .put-words6 .ensures)
 
 pub put-of-graph-spec : {M : Type 1} → statement M
 put-of-graph-spec =
@@ -90,6 +103,8 @@ put-of-graph-spec =
     put-words-requires-4
     slice-aggregate-put-words-5
     put-words-requires-5
+    slice-aggregate-put-words-6
+    put-words-requires-6
     same-length
     returns
     same-length-2
@@ -99,4 +114,6 @@ put-of-graph-spec =
     same-length-4
     returns-4
     same-length-5
-    returns-5)
+    returns-5
+    same-length-6
+    returns-6)
