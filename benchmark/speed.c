@@ -1,4 +1,4 @@
-// Plans, judgements and wake books a second of the proved library and of the second reading (tests/independent/second.c), on five yards: the longest sheet, sixty probes at random, a star, yard A of docs/RULES.md, and sixty at random with relays; and the book of the longest plan that passes, with 65,535 slots.
+// Plans, judgements and wake books a second of the proved library and of the second reading (tests/independent/second.c), on five yards: the longest sheet, sixty probes at random, a star, yard A of docs/RULES.md, and sixty at random with relays; and the book of the longest plan that passes, with 65,535 slots, and the merged plan of the sixty.
 // Both answer the same calls turn by turn in one run, and first their answers are compared. Each buffer is cleared before a plan is made, outside the
 // time. speed [TURNS]
 #include "second.h"
@@ -140,7 +140,7 @@ int main(int argc, char **argv) {
   if (turns < 1 || turns > MOST) return printf("usage: speed [TURNS], 1 to %d\n", MOST), 2;
   printf("%-12s %-9s %10s %10s   %s\n", "yard", "work", "ours / s", "C / s", "our time / C's time: median (80% of the turns)");
   yard(63, 0, 15, 1), all("longest"), longest_book();
-  yard(60, 2, ANY, 60), all("sixty");
+  yard(60, 2, ANY, 60), all("sixty"), plans("sixty", "merged", yard_merged, second_merged);
   yard(63, 1, 15, 0), all("star");
   memcpy(sheet, A, sizeof A), length = sizeof A, all("A");
   yard(60, 2, RELAYS, 60), all("relays");

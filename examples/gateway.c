@@ -1,10 +1,10 @@
 // How a gateway uses the library: it asks how long a reading takes, and how long otherwise arranged, plans the sheet in a file both ways, sends the shorter plan slot by slot, has it judged,
-// is told who spoils another plan, hands each probe its entry of the wake book, logs the listing, and writes the conflicts for a colouring program. gateway SHEET
+// is told who spoils another plan, hands each probe its entry of the wake book, plans and has judged a merged reading, logs the listing, and writes the conflicts for a colouring program. gateway SHEET
 #include "yard.h"
 #include <inttypes.h>
 #include <stdio.h>
 
-static uint8_t sheet[YARD_SHEET_BYTES], by_probe[YARD_PLAN_BYTES], by_level[YARD_PLAN_BYTES], text[YARD_TEXT_BYTES], book[YARD_BOOK_BYTES], graph[YARD_GRAPH_BYTES], hung[YARD_LONGEST_SHEET];
+static uint8_t sheet[YARD_SHEET_BYTES], by_probe[YARD_PLAN_BYTES], by_level[YARD_PLAN_BYTES], once[YARD_MERGED_BYTES], text[YARD_TEXT_BYTES], book[YARD_BOOK_BYTES], graph[YARD_GRAPH_BYTES], hung[YARD_LONGEST_SHEET];
 
 static void tell(const char *way, yard_planned planned) {
   printf("%s: %d slots, %d colours, %zu bytes\n", way, planned.slots, planned.colours, planned.bytes);
@@ -21,8 +21,7 @@ static void send_all(const uint8_t *plan, int slots) {
 }
 
 // Of the numbers about a plan, 12 to 15 name senders of the slot.
-static void judge(const char *what, size_t length, const uint8_t *plan, size_t bytes) {
-  yard_verdict verdict = yard_judge(sheet, length, plan, bytes);
+static void say(const char *what, yard_verdict verdict) {
   printf("%s: number %d at %d, %d slots", what, verdict.number, verdict.place, verdict.slots);
   if (verdict.number >= 12 && verdict.number <= 14) printf(", sender %d", verdict.first);
   if (verdict.number == 15) printf(", senders %d and %d", verdict.first, verdict.second);
@@ -52,6 +51,17 @@ static void read_book(yard_booked booked) {
   for (size_t at = 0; at < booked.bytes; probe++) printf("probe %d", probe), at = read_list("sends", at), at = read_list("listens", at), printf("\n");
 }
 
+// One average for the yard: each probe sends once, after all its children have. Where a branch has several packets, neither judge passes the other's plan.
+static void merge(size_t length, const uint8_t *plan, size_t bytes) {
+  yard_merged_told told = yard_merged_ask(sheet, length);
+  printf("merged: at least %d slots, ours %d, at most %d\n", told.least, told.ours, told.most);
+  yard_planned planned = yard_merged(sheet, length, once, YARD_MERGED_BYTES);
+  tell("merged", planned), send_all(once, planned.slots);
+  say("judged as merged", yard_merged_judge(sheet, length, once, planned.bytes));
+  say("judged by packets", yard_judge(sheet, length, once, planned.bytes));
+  say("the plan of packets judged as merged", yard_merged_judge(sheet, length, plan, bytes));
+}
+
 int main(int argc, char **argv) {
   FILE *file = argc == 2 ? fopen(argv[1], "rb") : NULL;
   if (!file) return printf("usage: gateway SHEET\n"), 2;
@@ -75,13 +85,14 @@ int main(int argc, char **argv) {
   yard_planned planned = chosen == 1 ? probe : level;
   send_all(plan, planned.slots);
 
-  judge("judged", length, plan, planned.bytes);
-  judge("judged without its last byte", length, plan, planned.bytes - 1);
+  say("judged", yard_judge(sheet, length, plan, planned.bytes));
+  say("judged without its last byte", yard_judge(sheet, length, plan, planned.bytes - 1));
   const uint8_t together[] = {0, 1, 2, 2, 4}, stranger[] = {0, 1, 2, 2, 200}; // one slot of two senders
-  judge("judged with 2 and 4 in one slot", length, together, sizeof together);
-  judge("judged with 2 and 200 in one slot", length, stranger, sizeof stranger);
+  say("judged with 2 and 4 in one slot", yard_judge(sheet, length, together, sizeof together));
+  say("judged with 2 and 200 in one slot", yard_judge(sheet, length, stranger, sizeof stranger));
   read_book(yard_book(sheet, length, plan, planned.bytes, book, YARD_BOOK_BYTES));
   read_book(yard_book(sheet, length, plan, planned.bytes, book, 3)); // too short a buffer
+  merge(length, plan, planned.bytes);
   fwrite(text, 1, yard_list(sheet, length, text, YARD_TEXT_BYTES), stdout); // always the plan by probe
 
   yard_drawn drawn = yard_graph_write(sheet, length, graph, YARD_GRAPH_BYTES);

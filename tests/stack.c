@@ -5,7 +5,7 @@
 #include <string.h>
 #include <ucontext.h>
 
-enum { BY_PROBE, BY_LEVEL, JUDGE, CHOOSE, GRAPH_WRITE, GRAPH_READ, SPREAD, WORST, BEST, BOOK, LIST, ASK, FUNCTIONS, PAINT = 0xa5, LENT = 1 << 20, LAST_SLOT = 255, MOST_SLOTS = 65535 };
+enum { BY_PROBE, BY_LEVEL, JUDGE, CHOOSE, GRAPH_WRITE, GRAPH_READ, SPREAD, WORST, BEST, BOOK, MERGED, MERGED_JUDGE, MERGED_ASK, LIST, ASK, FUNCTIONS, PAINT = 0xa5, LENT = 1 << 20, LAST_SLOT = 255, MOST_SLOTS = 65535 };
 
 static uint8_t lent[LENT], sheet[YARD_SHEET_BYTES], plan[YARD_JUDGED_BYTES + 1], out[YARD_TEXT_BYTES], text[YARD_GRAPH_BYTES];
 static uint64_t rows[64];
@@ -24,6 +24,9 @@ static void call(void) {
   if (function == WORST) yard_worst(sheet, length, out, room);
   if (function == BEST) yard_best(sheet, length, out, room);
   if (function == BOOK) yard_book(sheet, length, plan, bytes, out, room);
+  if (function == MERGED) yard_merged(sheet, length, out, room);
+  if (function == MERGED_JUDGE) yard_merged_judge(sheet, length, plan, bytes);
+  if (function == MERGED_ASK) yard_merged_ask(sheet, length);
   if (function == LIST) yard_list(sheet, length, out, room);
   if (function == ASK) yard_ask(sheet, length);
 }
@@ -41,7 +44,7 @@ static void measure(int which) {
 }
 
 static void judged(size_t size) {
-  bytes = size, measure(JUDGE), measure(CHOOSE);
+  bytes = size, measure(JUDGE), measure(CHOOSE), measure(MERGED_JUDGE);
   for (room = 0; room <= YARD_TEXT_BYTES; room += YARD_TEXT_BYTES) measure(BOOK);
 }
 
@@ -79,14 +82,15 @@ static void texts(size_t size) {
       small_text("p edge 2 100000000000000000000\n", 20);
 }
 
-// Every function on the sheet that stands there.
+// Every function on the sheet that stands there; each judge has both plans to judge, its own and the other's.
 static void sheet_done(void) {
   yard_planned own = yard_by_probe(sheet, length, plan, YARD_PLAN_BYTES);
-  for (room = 0; room <= YARD_TEXT_BYTES; room += YARD_TEXT_BYTES) measure(BY_PROBE), measure(BY_LEVEL), measure(LIST), measure(ASK), measure(GRAPH_WRITE), measure(SPREAD), measure(WORST), measure(BEST);
+  for (room = 0; room <= YARD_TEXT_BYTES; room += YARD_TEXT_BYTES)
+    measure(BY_PROBE), measure(BY_LEVEL), measure(LIST), measure(ASK), measure(GRAPH_WRITE), measure(SPREAD), measure(WORST), measure(BEST), measure(MERGED), measure(MERGED_ASK);
   yard_drawn drawn = yard_graph_write(sheet, length, text, YARD_GRAPH_BYTES);
   if (drawn.number == 0) texts(drawn.bytes);
   if (own.number) judged(0);
-  else plans(own.bytes, own.slots);
+  else plans(own.bytes, own.slots), own = yard_merged(sheet, length, plan, YARD_MERGED_BYTES), plans(own.bytes, own.slots);
 }
 
 // 63 probes of 15 packets, in a chain or next to the gateway, with all pairs or none.
@@ -124,8 +128,9 @@ int main(void) {
   sheets();
   size_t most = 0;
   for (int k = 0; k < LIST; k++) most = deepest[k] > most ? deepest[k] : most;
-  printf("stack used by probe %zu, by level %zu, to judge %zu, to choose %zu, to write a graph %zu, to read one %zu, at worst and best %zu, to hang them %zu and %zu, to make a book %zu of %d bytes; to list %zu, to ask %zu of %d\n", deepest[BY_PROBE],
-    deepest[BY_LEVEL], deepest[JUDGE], deepest[CHOOSE], deepest[GRAPH_WRITE], deepest[GRAPH_READ], deepest[SPREAD], deepest[WORST], deepest[BEST], deepest[BOOK], YARD_STACK, deepest[LIST], deepest[ASK], YARD_LIST_STACK);
+  printf("stack used by probe %zu, by level %zu, to judge %zu, to choose %zu, to write a graph %zu, to read one %zu, at worst and best %zu, to hang them %zu and %zu, to make a book %zu, to merge %zu, to judge that %zu, to ask of it %zu of %d bytes; to list %zu, to ask %zu of %d\n", deepest[BY_PROBE],
+    deepest[BY_LEVEL], deepest[JUDGE], deepest[CHOOSE], deepest[GRAPH_WRITE], deepest[GRAPH_READ], deepest[SPREAD], deepest[WORST], deepest[BEST], deepest[BOOK], deepest[MERGED],
+    deepest[MERGED_JUDGE], deepest[MERGED_ASK], YARD_STACK, deepest[LIST], deepest[ASK], YARD_LIST_STACK);
   int all = fits("YARD_STACK", most, YARD_STACK), list = fits("YARD_LIST_STACK", deepest[LIST] > deepest[ASK] ? deepest[LIST] : deepest[ASK], YARD_LIST_STACK);
   return all && list ? 0 : 1;
 }

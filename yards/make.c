@@ -3,7 +3,7 @@
 #include <stdlib.h>
 #include <string.h>
 
-enum { NODES = 65, ROWS = 10, AISLES = 6 };
+enum { NODES = 65, ROWS = 10, AISLES = 6, STORE_AISLES = 3, BAYS = 2, STACKS = 3 };
 
 typedef struct { int p, parent[NODES], packets[NODES]; unsigned char pair[NODES][NODES]; } Yard;
 
@@ -100,14 +100,32 @@ static Yard worst(void) {
   return y;
 }
 
+// The relay of a bay; the bay's stacks have the next numbers.
+static int relay_of(int aisle, int bay) { return 2 + (aisle * BAYS + bay) * (1 + STACKS); }
+
+// A dry store: in every bay of an aisle a bare relay, which hands to the one before it, and three stacks round it. It also hears the relay and the nearest stack of each bay beside its own.
+static Yard dry_store(void) {
+  Yard y;
+  memset(&y, 0, sizeof y);
+  y.p = STORE_AISLES * BAYS * (1 + STACKS);
+  for (int aisle = 0; aisle < STORE_AISLES; aisle++)
+    for (int bay = 0; bay < BAYS; bay++) {
+      int relay = relay_of(aisle, bay), beside = relay_of(aisle + 1, bay);
+      y.parent[relay] = bay == 0 ? 1 : relay_of(aisle, bay - 1);
+      for (int k = 1; k <= STACKS; k++) y.parent[relay + k] = relay, y.packets[relay + k] = 1 + (aisle + bay + k) % 3;
+      if (aisle + 1 < STORE_AISLES) y.pair[relay][beside] = y.pair[relay][beside + 1] = y.pair[relay + STACKS][beside] = 1;
+    }
+  return y;
+}
+
 int main(int argc, char **argv) {
   static const unsigned char document[] = {3, 1, 1, 2, 1, 1, 1, 0, 0}, none[] = {0, 0, 0}, damaged[] = {3, 1, 1, 4, 1, 3, 1, 0, 0};
   if (argc != 2) return printf("usage: make FOLDER\n"), 2;
   folder = argv[1];
   save("document", document, sizeof document), save("empty", none, sizeof none), save("damaged", damaged, sizeof damaged);
-  Yard good = down_the_aisles(), bad = one_string(), relays = relays_in_the_aisles(), chain = line(63, 2, 1), star = line(63, 2, 0), longest = line(63, 1, 1), slowest = worst();
+  Yard good = down_the_aisles(), bad = one_string(), relays = relays_in_the_aisles(), chain = line(63, 2, 1), star = line(63, 2, 0), longest = line(63, 1, 1), slowest = worst(), dry = dry_store();
   memset(longest.pair, 1, sizeof longest.pair);
   write_yard("sixty", &good), write_yard("sixty-in-one-string", &bad), write_yard("relays", &relays);
-  write_yard("chain", &chain), write_yard("star", &star), write_yard("longest", &longest), write_yard("sixty-at-worst", &slowest);
+  write_yard("dry-store", &dry), write_yard("chain", &chain), write_yard("star", &star), write_yard("longest", &longest), write_yard("sixty-at-worst", &slowest);
   return 0;
 }

@@ -12,6 +12,10 @@ uint8_t second_choose(const uint8_t *sheet, size_t length, const uint8_t *first,
 
 yard_booked second_book(const uint8_t *sheet, size_t length, const uint8_t *plan, size_t size, uint8_t *book, size_t room);
 
+yard_planned second_merged(const uint8_t *sheet, size_t length, uint8_t *buf, size_t room);
+yard_verdict second_merged_judge(const uint8_t *sheet, size_t length, const uint8_t *plan, size_t size);
+yard_merged_told second_merged_ask(const uint8_t *sheet, size_t length);
+
 yard_told second_ask(const uint8_t *sheet, size_t length);
 yard_spread second_spread(const uint8_t *sheet, size_t length);
 

@@ -9,6 +9,9 @@
 
 enum { NODES = 65, MOST_SHEET = 5000, MOST_PLAN = 300000, MOST_TEXT = 200000, MOST_LINES = 2100, MOST_LINE = 128, FILL = 0xee, ENOUGH = 200, NUMBERS = 23 };
 
+// The ways to plan.
+enum { BY_PROBE, BY_LEVEL, MERGED };
+
 // Where a graph's text is refused: nowhere in it, in its first line, between, in its last, or behind line 65,535.
 enum { NOWHERE, FIRST, BETWEEN, LAST, FAR, PLACES };
 
@@ -18,8 +21,11 @@ enum { BACKWARDS, OTHERWISE, ORDERS };
 static unsigned char sheet[MOST_SHEET], got[YARD_TEXT_BYTES + 8], want[YARD_TEXT_BYTES + 8], plan[2][MOST_PLAN], own[YARD_PLAN_BYTES];
 static unsigned char sheet_lent[MOST_SHEET], plan_lent[2][MOST_PLAN];
 static unsigned char text[MOST_TEXT], text_lent[MOST_TEXT];
-static long sheets, yards, relayed, plannings, plans, listings, asked, spreads, books, drawings, texts, numbers[NUMBERS], placed[NUMBERS][PLACES];
-static long blamed, ordered, ordered_by[NUMBERS][ORDERS], others, shorter, shortest;
+static long sheets, yards, relayed, listings, spreads, books, drawings, texts, placed[NUMBERS][PLACES];
+
+// Whether the reading that is planned and judged now is a merged one; what is counted of both kinds stands apart by it.
+static int merged;
+static long plannings[2], plans[2], asked[2], numbers[2][NUMBERS], blamed[2], ordered[2], ordered_by[2][NUMBERS][ORDERS], others[2], shorter[2], shortest[2];
 
 // ---- chance
 
@@ -76,42 +82,61 @@ static int same_verdict(yard_verdict a, yard_verdict b) {
   return a.number == b.number && a.place == b.place && a.slots == b.slots && a.first == b.first && a.second == b.second;
 }
 
-static size_t compare_planner(size_t len, int by_level, size_t room) {
+typedef yard_planned planner(const uint8_t *, size_t, uint8_t *, size_t);
+
+static yard_planned compare_planner(size_t len, int way, size_t room) {
+  static planner *const ours[] = {yard_by_probe, yard_by_level, yard_merged}, *const theirs[] = {second_by_probe, second_by_level, second_merged};
+  static const char *const names[] = {"planner by probe", "planner by level", "merged planner"};
   lend(len, 0, 0);
   memset(got, FILL, room + 8), memset(want, FILL, room + 8);
-  yard_planned a = by_level ? yard_by_level(sheet, len, got, room) : yard_by_probe(sheet, len, got, room);
-  yard_planned b = by_level ? second_by_level(sheet, len, want, room) : second_by_probe(sheet, len, want, room);
-  plannings++, numbers[b.number]++;
+  yard_planned a = ours[way](sheet, len, got, room), b = theirs[way](sheet, len, want, room);
+  plannings[merged]++, numbers[merged][b.number]++;
   unchanged(len, 0, 0);
-  if (!same_plan(a, b) || memcmp(got, want, room + 8)) differ(by_level ? "planner by level" : "planner by probe", len, room, 0, 0);
-  return b.bytes;
+  if (!same_plan(a, b) || memcmp(got, want, room + 8)) differ(names[way], len, room, 0, 0);
+  return b;
 }
 
-static int held[NODES];
+// What each node holds: its packets, and in a merged reading 1 where it is ready; there it waits for so many children.
+static int held[NODES], waits[NODES];
 static uint64_t conflicts[64]; // as second_conflicts has them
+
+static int parent_of(int v) { return sheet[2 * v - 3]; }
+
+static void hold_all(void) {
+  memset(held, 0, sizeof held), memset(waits, 0, sizeof waits);
+  for (int v = 2; v <= sheet[0] + 1; v++) waits[parent_of(v)]++;
+  for (int v = 2; v <= sheet[0] + 1; v++) held[v] = merged ? waits[v] == 0 : sheet[2 * v - 2];
+}
+
+// A packet comes to the parent; in a merged reading the parent gets ready by the last of its children.
+static void hand_on(int v) {
+  int parent = parent_of(v);
+  held[v]--, waits[parent]--;
+  held[parent] += !merged || waits[parent] == 0;
+}
 
 static int conflict(int a, int b) { return conflicts[a - 1] >> (b - 1) & 1; }
 
 // Where a slot of a plan begins, those before it having passed; held is then what each node holds before it.
 static size_t come_to(const unsigned char *from, int place) {
   size_t at = 2;
-  memset(held, 0, sizeof held);
-  for (int v = 2; v <= sheet[0] + 1; v++) held[v] = sheet[2 * v - 2];
+  hold_all();
   for (; place > 1; place--)
-    for (int many = from[at++]; many > 0; many--, at++) held[from[at]]--, held[sheet[2 * from[at] - 3]]++;
+    for (int many = from[at++]; many > 0; many--, at++) hand_on(from[at]);
   return at;
 }
 
 static int is_probe(int v) { return v >= 2 && v <= sheet[0] + 1; }
 
-// Whom other orders name for 12, 13 or 14, -1 for nobody. Otherwise: for 12 the lowest, for 13 the earlier of two, for 14 the first that the sheet gives no packet.
+// Whom other orders name for 12, 13 or 14, -1 for nobody. Otherwise: for 12 the lowest, for 13 the earlier of two, for 14 the first that the sheet gives no packet, in
+// a merged reading the first that waits for nobody, having sent.
 static void who_else(const unsigned char *who, int many, int number, int *other) {
   for (int i = 0; i < many; i++) {
     int v = who[i], is_first = other[OTHERWISE] < 0, falls = i > 0 && v <= who[i - 1];
     if (number == 12 ? !is_probe(v) : number == 13 ? falls : held[v] == 0) other[BACKWARDS] = v;
     if (number == 12 && !is_probe(v) && (is_first || v < other[OTHERWISE])) other[OTHERWISE] = v;
     if (number == 13 && falls && is_first) other[OTHERWISE] = who[i - 1];
-    if (number == 14 && sheet[2 * v - 2] == 0 && is_first) other[OTHERWISE] = v;
+    if (number == 14 && (merged ? held[v] + waits[v] : sheet[2 * v - 2]) == 0 && is_first) other[OTHERWISE] = v;
   }
 }
 
@@ -133,19 +158,24 @@ static void count_orders(size_t len, const unsigned char *from, yard_verdict r) 
   if (r.number == 15) which_else(slot + 1, slot[0], other);
   else who_else(slot + 1, slot[0], r.number, other);
   for (int k = 0; k < ORDERS; k++)
-    if (other[k] >= 0 && other[k] != ours) ordered_by[r.number][k]++, differs = 1;
-  blamed++, ordered += differs;
+    if (other[k] >= 0 && other[k] != ours) ordered_by[merged][r.number][k]++, differs = 1;
+  blamed[merged]++, ordered[merged] += differs;
 }
+
+typedef yard_verdict judge(const uint8_t *, size_t, const uint8_t *, size_t);
 
 // The first bytes of a plan decide its verdict (docs/DECISIONS.md), so a plan that goes on is judged by them as well. Only 12 to 15 name anyone, and only 15 two.
 static yard_verdict compare_judge(size_t len, int which, size_t size) {
-  yard_verdict a = yard_judge(sheet, len, plan[which], size), b = second_judge(sheet, len, plan[which], size);
+  judge *ours = merged ? yard_merged_judge : yard_judge, *theirs = merged ? second_merged_judge : second_judge;
+  size_t deciding = merged ? YARD_MERGED_JUDGED_BYTES : YARD_JUDGED_BYTES, first = which ? 0 : size, second = which ? size : 0;
+  yard_verdict a = ours(sheet, len, plan[which], size), b = theirs(sheet, len, plan[which], size);
   int names = b.number == 15 ? 2 : b.number >= 12 && b.number <= 14;
-  plans++, numbers[b.number]++;
-  if (!same_verdict(a, b)) differ("judge", len, 0, which ? 0 : size, which ? size : 0);
-  if ((names < 1 && a.first) || (names < 2 ? a.second != 0 : a.second <= a.first)) differ("judge's names", len, 0, which ? 0 : size, which ? size : 0);
+  plans[merged]++, numbers[merged][b.number]++;
+  if (!same_verdict(a, b)) differ(merged ? "merged judge" : "judge", len, 0, first, second);
+  if (merged && !same_verdict(yard_judge(sheet, len, plan[which], size), second_judge(sheet, len, plan[which], size))) differ("judge of packets, of a merged plan", len, 0, first, second);
+  if ((names < 1 && a.first) || (names < 2 ? a.second != 0 : a.second <= a.first)) differ("judge's names", len, 0, first, second);
   if (names) count_orders(len, plan[which], b);
-  if (size > YARD_JUDGED_BYTES && !same_verdict(a, yard_judge(sheet, len, plan[which], YARD_JUDGED_BYTES))) differ("judge of the deciding bytes", len, 0, which ? 0 : size, which ? size : 0);
+  if (size > deciding && !same_verdict(a, ours(sheet, len, plan[which], deciding))) differ("judge of the deciding bytes", len, 0, first, second);
   return b;
 }
 
@@ -162,17 +192,17 @@ static void compare_book(size_t len, int which, size_t size, yard_verdict r) {
   size_t need = book_length(len), room = r.number ? rnd(40) : off == 0 && need > 0 ? need - 1 : off == 1 ? need + rnd(9) : need;
   memset(got, FILL, room + 8), memset(want, FILL, room + 8);
   yard_booked a = yard_book(sheet, len, plan[which], size, got, room), b = second_book(sheet, len, plan[which], size, want, room);
-  books++, numbers[22] += b.number == 22;
+  books++, numbers[merged][22] += b.number == 22;
   if (a.number != b.number || a.place != b.place || a.first != b.first || a.second != b.second || a.bytes != b.bytes || memcmp(got, want, room + 8))
     differ("wake book", len, room, which ? 0 : size, which ? size : 0);
   if (r.number ? b.number != r.number || b.bytes : b.number ? b.number != 22 || room >= need : b.bytes != need) differ("length of a wake book", len, room, which ? 0 : size, which ? size : 0);
 }
 
-// What the second reading tells of the sheet must hold of every plan that passes, whoever made it.
+// What the second reading tells of the sheet must hold of every plan that passes, whoever made it. Of a merged reading no times are told.
 static yard_told told;
 
 static void limits(size_t len, yard_verdict r, size_t first, size_t second) {
-  if (r.number == 0 && (r.slots < told.least || told.times * r.slots < told.ours)) differ("limits on anybody's plan", len, 0, first, second);
+  if (r.number == 0 && (r.slots < told.least || (!merged && told.times * r.slots < told.ours))) differ("limits on anybody's plan", len, 0, first, second);
 }
 
 static void compare_plans(size_t len, size_t first, size_t second) {
@@ -189,7 +219,7 @@ static void compare_plans(size_t len, size_t first, size_t second) {
 static yard_told compare_told(size_t len) {
   lend(len, 0, 0);
   yard_told a = yard_ask(sheet, len), b = second_ask(sheet, len);
-  asked++;
+  asked[merged]++;
   unchanged(len, 0, 0);
   if (a.number != b.number || a.place != b.place || a.least != b.least || a.ours != b.ours || a.most != b.most || a.times != b.times) differ("telephone", len, 0, 0, 0);
   if (a.least > a.ours || a.ours > a.most) differ("telephone's limits", len, 0, 0, 0);
@@ -245,7 +275,7 @@ static size_t compare_drawing(size_t len, size_t room) {
   lend(len, 0, 0);
   memset(got, FILL, room + 8), memset(want, FILL, room + 8);
   yard_drawn a = yard_graph_write(sheet, len, got, room), b = second_graph_write(sheet, len, want, room);
-  drawings++, numbers[b.number]++;
+  drawings++, numbers[merged][b.number]++;
   unchanged(len, 0, 0);
   if (a.number != b.number || a.place != b.place || a.bytes != b.bytes || memcmp(got, want, room + 8)) differ("writer of graphs", len, room, 0, 0);
   return b.bytes;
@@ -266,7 +296,7 @@ static yard_graph compare_reading(size_t size) {
   rows[64] = other[64] = state;
   memcpy(text_lent, text, size);
   yard_graph a = yard_graph_read(text, size, rows), b = second_graph_read(text, size, other);
-  texts++, numbers[b.number]++, placed[b.number][kind_of(b.place, size)]++;
+  texts++, numbers[merged][b.number]++, placed[b.number][kind_of(b.place, size)]++;
   if (memcmp(text_lent, text, size)) differ_text("a text was written to", size);
   if (a.number != b.number || a.place != b.place || a.vertices != b.vertices || memcmp(rows, other, sizeof rows)) differ_text("reader of graphs", size);
   return b;
@@ -397,12 +427,14 @@ static size_t some_plan(unsigned char *to, size_t size) {
   if (size < 2) size = 2, put_count(to, 0);
   uint32_t how = rnd(9);
   if (how == 0) return empty_slot(to, size);
-  if (how == 1) return most_slots(to, size);
+  if (how == 1 && (!merged || rnd(8) == 0)) return most_slots(to, size); // a merged plan is short, so that these would take most of its time
   if (how == 2) return sheet[0] ? crowd(to, size, sheet[0] + 1) : size;
   return how < 7 ? damage(to, size, MOST_PLAN - 140000) : size;
 }
 
-// ---- plans of nobody's planner: each slot is a random one to which no holder can be added, by the conflicts and packets alone
+// ---- plans of nobody's planner: each slot is a random one to which no holder can be added, by the conflicts and packets alone; in a lazy plan one of so many is left out
+
+static uint32_t lazy; // 0, or at least 2
 
 static int outside(void) {
   for (int v = 2; v <= sheet[0] + 1; v++)
@@ -421,7 +453,7 @@ static size_t send_slot(unsigned char *to, const unsigned char *sends) {
   for (int v = 2; v <= sheet[0] + 1; v++)
     if (sends[v]) to[++many] = (unsigned char)v;
   to[0] = (unsigned char)many;
-  for (size_t k = 1; k <= many; k++) held[to[k]]--, held[sheet[2 * to[k] - 3]]++;
+  for (size_t k = 1; k <= many; k++) hand_on(to[k]);
   return many + 1;
 }
 
@@ -432,12 +464,12 @@ static size_t random_slot(unsigned char *to) {
     int j = (int)rnd((uint32_t)k + 1);
     order[k] = order[j], order[j] = k + 2;
   }
-  for (int k = 0; k < p; k++) sends[order[k]] = (unsigned char)fits(order[k], sends);
+  for (int k = 0; k < p; k++) sends[order[k]] = (unsigned char)(fits(order[k], sends) && (lazy == 0 || rnd(lazy)));
   return send_slot(to, sends);
 }
 
-// Such a plan must pass, and the limits must hold of it. How many are shorter than ours, and how many as short as any can be, is counted.
-static void anybodys(size_t len) {
+// Such a plan must pass, and the limits must hold of it. How many are shorter than ours, and how many as short as any can be, is counted. Its length.
+static size_t anybodys(size_t len) {
   size_t size = come_to(plan[0], 1);
   int slots = 0;
   second_conflicts(sheet, len, conflicts);
@@ -446,9 +478,11 @@ static void anybodys(size_t len) {
   lend(len, size, 0);
   yard_verdict r = compare_judge(len, 0, size);
   if (r.number || r.slots != slots) differ("a plan of nobody's planner", len, 0, size, 0);
-  limits(len, r, size, 0), compare_book(len, 0, size, r);
+  limits(len, r, size, 0);
+  if (!merged) compare_book(len, 0, size, r);
   unchanged(len, size, 0);
-  others++, shorter += slots < told.ours, shortest += slots == told.least;
+  others[merged]++, shorter[merged] += slots < told.ours, shortest[merged] += slots == told.least;
+  return size;
 }
 
 // ---- refused slots; whom each names is told by how it is made, so that the second reading is tried too
@@ -554,7 +588,8 @@ static void compare_names(size_t len, size_t bytes) {
 
 // Every slot of at most four of these bytes, first and then behind another, in the worked yard of docs/RULES.md.
 static void slot_by_slot(void) {
-  static const unsigned char worked[] = {5, 1, 1, 1, 1, 3, 1, 3, 1, 2, 1, 0, 1, 2, 5}, bytes[] = {0, 1, 2, 3, 4, 5, 6, 7, 200}, before[] = {0, 2, 2, 3, 6};
+  static const unsigned char worked[] = {5, 1, 1, 1, 1, 3, 1, 3, 1, 2, 1, 0, 1, 2, 5}, bytes[] = {0, 1, 2, 3, 4, 5, 6, 7, 200};
+  const unsigned char before[] = {0, 2, 2, merged ? 4 : 3, 6};
   memcpy(sheet, worked, sizeof worked);
   for (int all = 1, size = 0; size <= 4; all *= 9, size++)
     for (int which = 0; which < all; which++)
@@ -564,6 +599,160 @@ static void slot_by_slot(void) {
         for (int k = 0, left = which; k < size; k++, left /= 9) plan[0][at++] = bytes[left % 9];
         compare_judge(sizeof worked, 0, at);
       }
+}
+
+// ---- merged readings of the same sheets
+
+// As the telephone's answer of packets, without times.
+static yard_told compare_merged_told(size_t len) {
+  lend(len, 0, 0);
+  yard_merged_told a = yard_merged_ask(sheet, len), b = second_merged_ask(sheet, len);
+  asked[merged]++;
+  unchanged(len, 0, 0);
+  if (a.number != b.number || a.place != b.place || a.least != b.least || a.ours != b.ours || a.most != b.most) differ("merged telephone", len, 0, 0, 0);
+  return (yard_told){.number = b.number, .place = b.place, .least = b.least, .ours = b.ours, .most = b.most};
+}
+
+static yard_verdict compare_first(size_t len, size_t size) {
+  lend(len, size, 0);
+  yard_verdict r = compare_judge(len, 0, size);
+  limits(len, r, size, 0), unchanged(len, size, 0);
+  return r;
+}
+
+static int depth(void) {
+  int most = 0;
+  for (int v = 2; v <= sheet[0] + 1; v++) {
+    int level = 0;
+    for (int node = v; node != 1; node = parent_of(node)) level++;
+    most = level > most ? level : most;
+  }
+  return most;
+}
+
+// What holds of each merged plan of ours, which stands in plan[0]: it passes, each slot has a sender, and slots and bytes are within their limits, which are told too.
+static void merged_limits(size_t len, yard_planned r) {
+  int deep = depth(), probes = sheet[0], most = r.colours * deep < probes ? r.colours * deep : probes, idle = 0;
+  size_t at = 2;
+  for (int k = 0; k < r.slots; k++) idle += plan[0][at] == 0, at += 1 + (size_t)plan[0][at];
+  yard_verdict v = compare_first(len, r.bytes);
+  if (r.number || v.number || v.slots != r.slots || idle || at != r.bytes) differ("our merged plan", len, 0, r.bytes, 0);
+  if (r.slots < deep || r.slots > most || r.bytes > 2 + 2 * (size_t)probes) differ("limits of our merged plan", len, 0, r.bytes, 0);
+  if (told.least != deep || told.ours != r.slots || told.most != most) differ("limits told of our merged plan", len, 0, r.bytes, 0);
+}
+
+// Into buffers that are one byte short, longer and exact, of which every byte is compared; the plan stands in own then. Its length.
+static size_t compare_ours(size_t len) {
+  size_t room = 2 + 2 * (size_t)sheet[0];
+  if (compare_planner(len, MERGED, room - 1).number != 9) differ("room for a merged plan", len, room - 1, 0, 0);
+  compare_planner(len, MERGED, room + 1 + rnd(8));
+  yard_planned r = compare_planner(len, MERGED, room);
+  memcpy(own, got, r.bytes), memcpy(plan[0], got, r.bytes);
+  merged_limits(len, r);
+  return r.bytes;
+}
+
+// In which slot of a merged plan each probe sends, 0 for none, and how many slots there are.
+static int sends_in[NODES], all_slots;
+
+static void note_slots(const unsigned char *from) {
+  size_t at = 2;
+  all_slots = from[0] * 256 + from[1];
+  for (int k = 1; k <= all_slots; k++)
+    for (int many = from[at++]; many > 0; many--, at++) sends_in[from[at]] = k;
+}
+
+// The plan of these slots, in one of which a probe sends again; its length.
+static size_t lay_out(int again, int where) {
+  size_t size = 2;
+  for (int k = 1; k <= all_slots; k++) {
+    size_t count = size++;
+    for (int v = 2; v <= sheet[0] + 1; v++)
+      if (sends_in[v] == k || (v == again && k == where)) plan[0][size++] = (unsigned char)v;
+    plan[0][count] = (unsigned char)(size - count - 1);
+  }
+  put_count(plan[0], all_slots);
+  return size;
+}
+
+static yard_verdict not_ready(int v, int place) { return (yard_verdict){.number = 14, .place = (uint16_t)place, .first = (uint8_t)v}; }
+
+// A probe that never sends: its parent is never ready, and next to the gateway it is missed in the end.
+static yard_verdict never(int v) {
+  sends_in[v] = 0;
+  return parent_of(v) > 1 ? not_ready(parent_of(v), sends_in[parent_of(v)]) : (yard_verdict){.number = 17, .place = (uint16_t)all_slots};
+}
+
+// A parent that sends before its child, or in the same slot, where the two conflict as well.
+static yard_verdict early(int v) {
+  int parent = parent_of(v), place = rnd(2) ? sends_in[v] : 1 + (int)rnd((uint32_t)sends_in[v]);
+  if (parent == 1) return never(v);
+  sends_in[parent] = place;
+  return not_ready(parent, place);
+}
+
+// Slots change places: each probe still sends once, and no two conflict, so that only parents can be to blame, the first of them in the first slot that has one.
+static yard_verdict exchanged(void) {
+  int first = 0;
+  for (uint32_t times = 1 + rnd(3); times > 0; times--) {
+    int a = 1 + (int)rnd((uint32_t)all_slots), b = 1 + (int)rnd((uint32_t)all_slots);
+    for (int v = 2; v <= sheet[0] + 1; v++) sends_in[v] = sends_in[v] == a ? b : sends_in[v] == b ? a : sends_in[v];
+  }
+  for (int v = 2; v <= sheet[0] + 1; v++) {
+    int u = parent_of(v), waiting = u > 1 && sends_in[u] <= sends_in[v];
+    if (waiting && (first == 0 || sends_in[u] < sends_in[first] || (sends_in[u] == sends_in[first] && u < first))) first = u;
+  }
+  return first ? not_ready(first, sends_in[first]) : (yard_verdict){.slots = (uint16_t)all_slots};
+}
+
+// The good plan in own with one fault; what the judge says of it is told by how it is made, so that the second reading is tried too.
+static void spoil(size_t len) {
+  int v = some_probe(), again = 0, where = 0;
+  uint32_t how = rnd(4);
+  note_slots(own);
+  if (how == 0) again = v, where = sends_in[v] + 1 + (int)rnd((uint32_t)(all_slots + 1 - sends_in[v]));
+  all_slots += where > all_slots;
+  yard_verdict wanted = how == 0 ? not_ready(v, where) : how == 1 ? never(v) : how == 2 ? early(v) : exchanged();
+  size_t size = lay_out(again, where);
+  if (!same_verdict(compare_first(len, size), wanted)) differ("a merged plan with a fault", len, 0, size, 0);
+}
+
+static int has_several(void) {
+  for (int k = 1; k <= sheet[0]; k++)
+    if (sheet[2 * k] > 1) return 1;
+  return 0;
+}
+
+// Where a probe has several packets each judge refuses the other's plans: one sending leaves packets behind, or a relay sends without any; a second sending is 14.
+static long strange[2][NUMBERS];
+
+static void before_the_other(size_t len, size_t bytes) {
+  size_t size = second_by_probe(sheet, len, plan[1], YARD_PLAN_BYTES).bytes;
+  memcpy(plan[0], own, bytes), lend(len, bytes, size);
+  yard_verdict a = yard_judge(sheet, len, plan[0], bytes), b = second_judge(sheet, len, plan[0], bytes), c = compare_judge(len, 1, size);
+  if (!same_verdict(a, b) || (b.number != 17 && (b.number != 14 || !has_relay()))) differ("a merged plan before the judge of packets", len, 0, bytes, 0);
+  if (c.number != 14) differ("a plan by probe before the merged judge", len, 0, 0, size);
+  strange[0][b.number]++, strange[1][c.number]++, unchanged(len, bytes, size);
+}
+
+static void merged_yard(size_t len) {
+  size_t bytes = compare_ours(len);
+  compare_first(len, some_plan(plan[0], bytes)), compare_names(len, bytes);
+  if (sheet[0]) spoil(len);
+  if (has_several()) before_the_other(len, bytes);
+  lazy = rnd(4) ? 0 : 2 + rnd(3);
+  bytes = anybodys(len), lazy = 0;
+  memcpy(own, plan[0], bytes), compare_names(len, bytes);
+  if (sheet[0]) spoil(len);
+}
+
+// Chance goes on behind it as if nothing had been drawn here, so that the other comparisons do not depend on it.
+static void compare_merged(size_t len, int is_yard) {
+  uint64_t before = state;
+  merged = 1, told = compare_merged_told(len);
+  if (is_yard) merged_yard(len);
+  else compare_planner(len, MERGED, rnd(140)), compare_names(len, 0), compare_first(len, rnd(3));
+  merged = 0, state = before;
 }
 
 // ---- good and damaged texts of graphs; what the rules say of each is told by how it is made, so that the second reading is tried too
@@ -845,16 +1034,17 @@ static void long_texts(void) {
 }
 
 static void compare(long want_yards, long want_plans) {
-  while (yards < want_yards || plans < want_plans) {
+  while (yards < want_yards || plans[0] < want_plans) {
     size_t len = some_sheet(), room = second_room(sheet, len);
-    sheets++, yards += room > 0, relayed += room > 0 && has_relay();
+    int is_yard = room > 0;
+    sheets++, yards += is_yard, relayed += is_yard && has_relay();
     told = compare_told(len);
     compare_arranged(len, told);
-    if (room > 0) anybodys(len);
-    if (room == 0) room = rnd(40);
-    for (int by_level = 0; by_level < 2; by_level++) {
+    if (is_yard) anybodys(len);
+    else room = rnd(40);
+    for (int way = BY_PROBE; way <= BY_LEVEL; way++) {
       uint32_t off = rnd(4);
-      size_t bytes = compare_planner(len, by_level, off == 0 && room > 0 ? room - 1 : off == 1 ? room + rnd(9) : room);
+      size_t bytes = compare_planner(len, way, off == 0 && room > 0 ? room - 1 : off == 1 ? room + rnd(9) : room).bytes;
       if (bytes == 0 && rnd(4)) continue;
       memcpy(own, got, bytes);
       for (int more = 0; more < 2; more++) {
@@ -864,13 +1054,14 @@ static void compare(long want_yards, long want_plans) {
       compare_names(len, bytes);
     }
     compare_listing(len, rnd(16) ? YARD_TEXT_BYTES : YARD_TEXT_BYTES - 1), compare_graphs(len);
+    compare_merged(len, is_yard);
   }
 }
 
 // ---- the rows of "Yards to try" that are run and compared, by name
 
 static void named(const char *name, size_t len, size_t room) {
-  compare_planner(len, 1, room), compare_planner(len, 0, room), compare_listing(len, YARD_TEXT_BYTES), compare_told(len);
+  compare_planner(len, BY_LEVEL, room), compare_planner(len, BY_PROBE, room), compare_listing(len, YARD_TEXT_BYTES), compare_told(len);
   yard_planned r = yard_by_probe(sheet, len, got, room);
   printf("%s: %d at %d, %d colours, %d slots, %zu bytes\n", name, r.number, r.place, r.colours, r.slots, r.bytes);
 }
@@ -898,37 +1089,97 @@ static void yards_to_try(void) {
   named("no bytes at all", 0, YARD_PLAN_BYTES);
 }
 
+// Merged readings worked by hand: a plan that is ours, or anybody's, and what the merged judge says of it.
+typedef struct { const char *sheet, *plan; int is_ours; yard_verdict is; } Worked;
+
+static const char A[] = "03 01 01 02 01 01 01 00 00"; // of "Yards to try"
+
+static const Worked by_hand[] = {
+  {"00 00 00", "00 00", 1, {.slots = 0}}, {"01 01 00 00 00", "00 01 01 02", 1, {.slots = 1}}, {A, "00 02 02 03 04 01 02", 1, {.slots = 2}},
+  {"03 01 0f 02 00 01 07 00 00", "00 02 02 03 04 01 02", 1, {.slots = 2}}, {"03 01 01 02 01 03 01 00 00", "00 03 01 04 01 03 01 02", 1, {.slots = 3}},
+  {"03 01 01 02 01 01 01 00 01 02 04", "00 03 01 03 01 04 01 02", 1, {.slots = 3}},
+  {"05 01 01 01 01 03 01 03 01 02 01 00 01 02 05", "00 03 02 04 06 02 02 05 01 03", 1, {.slots = 3}},
+  {"07 01 01 02 01 01 01 04 01 01 01 05 01 01 01 00 05 03 04 04 06 04 07 05 06 05 08", "00 04 02 03 06 02 02 07 02 05 08 01 04", 1, {.slots = 4}}, // and five colours
+  {A, "00 03 01 03 01 02 01 04", 0, {.slots = 3}}, {A, "00 04 00 02 03 04 00 01 02", 0, {.slots = 4}},
+  {A, "00 01 02 02 03", 0, {14, 1, 0, 2, 0}}, {A, "00 01 02 02 04", 0, {14, 1, 0, 2, 0}}, {A, "00 02 01 03 02 03 04", 0, {14, 2, 0, 3, 0}},
+  {A, "00 02 01 03 02 02 04", 0, {15, 2, 0, 2, 4}}, {A, "00 01 02 04 03", 0, {13, 1, 0, 3, 0}}, {A, "00 01 02 02 05", 0, {12, 1, 0, 5, 0}},
+  {A, "00 02 02 03 04 01 02 00", 0, {16, 2, 0, 0, 0}}, {A, "00 01 02 03 04", 0, {17, 1, 0, 0, 0}}, {A, "00 03 02 03 04 01 02", 0, {11, 3, 0, 0, 0}},
+  {A, "00", 0, {11, 0, 0, 0, 0}}, {A, "00 00", 0, {17, 0, 0, 0, 0}}, {"01 01 00 00 00", "00 00", 0, {17, 0, 0, 0, 0}},
+  {"01 01 00 00 00", "00 02 01 02 01 02", 0, {14, 2, 0, 2, 0}}, {"02 03 01 02 01 00 00", "00 00", 0, {6, 2, 0, 0, 0}}};
+
+static size_t bytes_of(const char *hex, unsigned char *to) {
+  size_t many = 0;
+  for (char *end; *hex; hex = end) to[many++] = (unsigned char)strtoul(hex, &end, 16);
+  return many;
+}
+
+static void merged_to_try(void) {
+  for (size_t k = 0; k < sizeof by_hand / sizeof *by_hand; k++) {
+    const Worked *row = &by_hand[k];
+    size_t len = bytes_of(row->sheet, sheet), size = bytes_of(row->plan, plan[0]);
+    if (!same_verdict(compare_judge(len, 0, size), row->is)) differ("a merged plan judged by hand", len, 0, size, 0);
+    yard_planned r = compare_planner(len, MERGED, YARD_MERGED_BYTES);
+    compare_merged_told(len);
+    if (row->is_ours && (r.bytes != size || memcmp(got, plan[0], size))) differ("a merged plan made by hand", len, YARD_MERGED_BYTES, size, 0);
+  }
+}
+
+// Empty slots behind the plan's own, and a last one of too many senders: no more bytes of a plan decide.
+static size_t longest(size_t size) {
+  for (int slots = plan[0][0] * 256 + plan[0][1]; slots < 65534; slots++) plan[0][size++] = 0;
+  put_count(plan[0], 65535), plan[0][size++] = 255, memset(plan[0] + size, 2, 255);
+  return size + 255;
+}
+
+static void merged_sizes(void) {
+  size_t len = chain(63, 15), size = compare_planner(len, MERGED, YARD_MERGED_BYTES).bytes;
+  if (size != YARD_MERGED_BYTES || compare_planner(len, MERGED, YARD_MERGED_BYTES - 1).number != 9) differ("YARD_MERGED_BYTES", len, YARD_MERGED_BYTES, 0, 0);
+  size = longest(second_merged(sheet, len, plan[0], YARD_MERGED_BYTES).bytes);
+  if (size != YARD_MERGED_JUDGED_BYTES || compare_judge(len, 0, size).number != 13 || compare_judge(len, 0, size - 1).number != 11) differ("YARD_MERGED_JUDGED_BYTES", len, 0, size, 0);
+}
+
 // The header's sizes are exact, by the longest sheet, plans and graph that there are; the room for a listing is tried with every listing.
 static void sizes(void) {
   size_t len = chain(63, 15), size = second_by_probe(sheet, len, plan[0], YARD_PLAN_BYTES).bytes;
   if (len + 2 * 2016 + 1 != YARD_SHEET_BYTES || second_room(sheet, len) != YARD_PLAN_BYTES) differ("a size of yard.h", len, YARD_PLAN_BYTES, 0, 0);
   if (book_length(len) != YARD_BOOK_BYTES || yard_book(sheet, len, plan[0], size, got, YARD_BOOK_BYTES).bytes != YARD_BOOK_BYTES || yard_book(sheet, len, plan[0], size, got, YARD_BOOK_BYTES - 1).number != 22)
     differ("YARD_BOOK_BYTES", len, YARD_BOOK_BYTES, size, 0);
-  for (int slots = plan[0][0] * 256 + plan[0][1]; slots < 65534; slots++) plan[0][size++] = 0;
-  put_count(plan[0], 65535), plan[0][size++] = 255, memset(plan[0] + size, 2, 255), size += 255;
+  size = longest(size);
   if (size != YARD_JUDGED_BYTES || compare_judge(len, 0, size).number != 13 || compare_judge(len, 0, size - 1).number != 11) differ("YARD_JUDGED_BYTES", len, 0, size, 0);
   for (int v = 2; v <= 64; v++) sheet[2 * v - 3] = 1; // all next to the gateway, so that each two conflict
   if (compare_drawing(len, YARD_GRAPH_BYTES) != YARD_GRAPH_BYTES) differ("YARD_GRAPH_BYTES", len, YARD_GRAPH_BYTES, 0, 0);
 }
 
-// Every refusal, and a yard with relays, is met often enough, or the comparison says little; 10 is never given.
+static const char *const readings[] = {"", "merged: "};
+static const long enough_of[] = {ENOUGH, ENOUGH / 4}; // of what chance seldom makes of a merged plan, which is short
+
+// Every refusal, and a yard with relays, is met often enough, or the comparison says little; 10 is never given, and of a merged reading none above 17.
 static void enough(void) {
   if (relayed < yards / 4) printf("only %ld of %ld yards have relays\n", relayed, yards), exit(1);
-  for (int k = 0; k < NUMBERS; k++)
-    if (k != 10 && numbers[k] < ENOUGH) printf("number %d was met only %ld times\n", k, numbers[k]), exit(1);
+  for (int which = 0; which < 2; which++)
+    for (int k = 0; k < (which ? 18 : NUMBERS); k++)
+      if (k != 10 && numbers[which][k] < ENOUGH) printf("%snumber %d was met only %ld times\n", readings[which], k, numbers[which][k]), exit(1);
 }
 
 // So is a plan of nobody's planner that is shorter than ours, and one that is as short as any can be.
 static void enough_others(void) {
-  if (shorter < ENOUGH || shortest < ENOUGH) printf("only %ld plans were shorter than ours, and %ld as short as any\n", shorter, shortest), exit(1);
+  for (int which = 0; which < 2; which++)
+    if (shorter[which] < enough_of[which] || shortest[which] < ENOUGH) printf("%sonly %ld plans were shorter than ours, and %ld as short as any\n", readings[which], shorter[which], shortest[which]), exit(1);
 }
 
 // So is, for each number that names someone, a slot in which another order would name another.
 static void enough_orders(void) {
   static const char *const names[] = {"backwards", "otherwise"};
-  for (int k = 12; k < 16; k++)
-    for (int order = 0; order < ORDERS; order++)
-      if (ordered_by[k][order] < ENOUGH) printf("number %d searched %s named another only %ld times\n", k, names[order], ordered_by[k][order]), exit(1);
+  for (int which = 0; which < 2; which++)
+    for (int k = 12; k < 16; k++)
+      for (int order = 0; order < ORDERS; order++)
+        if (ordered_by[which][k][order] < enough_of[which]) printf("%snumber %d searched %s named another only %ld times\n", readings[which], k, names[order], ordered_by[which][k][order]), exit(1);
+}
+
+// So is a plan of each kind before the other kind's judge, with each number that it can get.
+static void enough_strange(void) {
+  if (strange[0][14] < ENOUGH || strange[0][17] < ENOUGH || strange[1][14] < ENOUGH)
+    printf("before the other judge: only %ld and %ld merged plans, and %ld by probe\n", strange[0][14], strange[0][17], strange[1][14]), exit(1);
 }
 
 // So is every place of each of the reader's numbers; 0 and 20 have none in the text, and 19 has a `p` line before it.
@@ -967,6 +1218,9 @@ static void show_sheet(size_t len, size_t room) {
   memset(got, FILL, sizeof got);
   show_plan("library by probe", yard_by_probe(sheet, len, got, room), room), show_plan("second by probe", second_by_probe(sheet, len, got, room), room);
   show_plan("library by level", yard_by_level(sheet, len, got, room), room), show_plan("second by level", second_by_level(sheet, len, got, room), room);
+  show_plan("library merged", yard_merged(sheet, len, got, room), room), show_plan("second merged", second_merged(sheet, len, got, room), room);
+  yard_merged_told c = yard_merged_ask(sheet, len), d = second_merged_ask(sheet, len);
+  printf("library tells of it: %d at %d, %d, %d, %d; second tells: %d at %d, %d, %d, %d\n", c.number, c.place, c.least, c.ours, c.most, d.number, d.place, d.least, d.ours, d.most);
   yard_told a = yard_ask(sheet, len), b = second_ask(sheet, len);
   printf("library tells: %d at %d, %d, %d, %d, %d; second tells: %d at %d, %d, %d, %d, %d\n", a.number, a.place, a.least, a.ours, a.most, a.times, b.number, b.place, b.least, b.ours, b.most, b.times);
   printf("library lists:\n"), fwrite(got, 1, yard_list(sheet, len, got, YARD_TEXT_BYTES), stdout);
@@ -991,6 +1245,8 @@ static void show(int argc, char **argv) {
     size[k] = load(argv[k + 4], plan[k], MOST_PLAN);
     yard_verdict a = yard_judge(sheet, len, plan[k], size[k]), b = second_judge(sheet, len, plan[k], size[k]);
     show_verdict(argv[k + 4], "library", a), show_verdict(argv[k + 4], "second", b);
+    a = yard_merged_judge(sheet, len, plan[k], size[k]), b = second_merged_judge(sheet, len, plan[k], size[k]);
+    show_verdict(argv[k + 4], "library, merged,", a), show_verdict(argv[k + 4], "second, merged,", b);
     show_book("library", yard_book(sheet, len, plan[k], size[k], got, room)), show_book("second", second_book(sheet, len, plan[k], size[k], got, room));
   }
   if (argc == 6)
@@ -1008,6 +1264,32 @@ static void show_text(const char *path) {
   show_rows("library", yard_graph_read(text, size, rows)), show_rows("second", second_graph_read(text, size, rows));
 }
 
+static void report_names(int which) {
+  printf("%ld refused plans name senders, and in %ld of them another order would name others; backwards, otherwise:", blamed[which], ordered[which]);
+  for (int k = 12; k < 16; k++) printf(" %d: %ld %ld", k, ordered_by[which][k][BACKWARDS], ordered_by[which][k][OTHERWISE]);
+}
+
+static void report(void) {
+  printf("%ld yards, %ld of them with relays, and %ld refused sheets, %ld plannings, %ld listings, %ld telephone answers, %ld of other arrangements, %ld judged plans and %ld wake books agree; by number:", yards, relayed, sheets - yards, plannings[0], listings, asked[0], spreads, plans[0], books);
+  for (int k = 0; k < NUMBERS; k++) printf(" %d: %ld", k, numbers[0][k]);
+  printf("\n%ld plans of nobody's planner keep the limits, %ld of them shorter than ours, and %ld as short as any can be\n", others[0], shorter[0], shortest[0]);
+  report_names(0);
+  printf("\n%ld graphs written and %ld texts read agree; accepted: %ld; refused nowhere, in the first line, between, in the last, behind line 65,535:", drawings, texts, placed[0][NOWHERE]);
+  for (int k = 18; k < 21; k++) {
+    printf(" %d:", k);
+    for (int place = NOWHERE; place < PLACES; place++) printf(" %ld", placed[k][place]);
+  }
+  printf("\n");
+}
+
+static void report_merged(void) {
+  printf("merged: %ld plannings, %ld telephone answers and %ld judged plans agree; by number:", plannings[1], asked[1], plans[1]);
+  for (int k = 0; k < 18; k++) printf(" %d: %ld", k, numbers[1][k]);
+  printf("; %ld plans of nobody's planner keep the limits, %ld of them shorter than ours, and %ld as short as any can be; ", others[1], shorter[1], shortest[1]);
+  report_names(1);
+  printf("; with several packets the judge refuses a merged plan 14: %ld 17: %ld, and the merged judge one by probe 14: %ld\n", strange[0][14], strange[0][17], strange[1][14]);
+}
+
 int main(int argc, char **argv) {
   if (argc >= 4 && argc <= 6 && !strcmp(argv[1], "show")) return show(argc, argv), 0;
   if (argc == 3 && !strcmp(argv[1], "read")) return show_text(argv[2]), 0;
@@ -1016,18 +1298,9 @@ int main(int argc, char **argv) {
   yards_to_try();
   sizes();
   slot_by_slot(), byte_by_byte(), long_texts();
+  merged = 1, merged_to_try(), merged_sizes(), slot_by_slot(), merged = 0;
   compare(atol(argv[2]), atol(argv[3]));
-  if (yards >= 20000) enough(), enough_others(), enough_orders(), enough_places();
-  printf("%ld yards, %ld of them with relays, and %ld refused sheets, %ld plannings, %ld listings, %ld telephone answers, %ld of other arrangements, %ld judged plans and %ld wake books agree; by number:", yards, relayed, sheets - yards, plannings, listings, asked, spreads, plans, books);
-  for (int k = 0; k < NUMBERS; k++) printf(" %d: %ld", k, numbers[k]);
-  printf("\n%ld plans of nobody's planner keep the limits, %ld of them shorter than ours, and %ld as short as any can be", others, shorter, shortest);
-  printf("\n%ld refused plans name senders, and in %ld of them another order would name others; backwards, otherwise:", blamed, ordered);
-  for (int k = 12; k < 16; k++) printf(" %d: %ld %ld", k, ordered_by[k][BACKWARDS], ordered_by[k][OTHERWISE]);
-  printf("\n%ld graphs written and %ld texts read agree; accepted: %ld; refused nowhere, in the first line, between, in the last, behind line 65,535:", drawings, texts, placed[0][NOWHERE]);
-  for (int k = 18; k < 21; k++) {
-    printf(" %d:", k);
-    for (int place = NOWHERE; place < PLACES; place++) printf(" %ld", placed[k][place]);
-  }
-  printf("\n");
+  if (yards >= 20000) enough(), enough_others(), enough_orders(), enough_places(), enough_strange();
+  report(), report_merged();
   return 0;
 }

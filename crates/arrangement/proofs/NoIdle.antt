@@ -11,7 +11,7 @@ use Rattle.meaning.specs.Sheet.{probeCount, parentOf, packetsOf, hops}
 use Rattle.meaning.specs.Rounds.{moved}
 use Rattle.meaning.specs.Answer.{isAccepted, sheetTest}
 use Rattle.meaning.specs.Judge.{judge}
-use Rattle.meaning.specs.Legal.{Runs, heldFirst}
+use Rattle.meaning.specs.Legal.{RunsIn, Runs, heldFirst}
 use Rattle.laws.proofs.Moving.{weighAll}
 use Rattle.laws.proofs.Turns.{sum-same}
 use Rattle.laws.proofs.Walk.{probe-yes}
@@ -37,7 +37,7 @@ counts-all (v ∷ slot) = omega (arith, counts-all slot)
 
 module _ (s : List ℕ) (ok : isAccepted (sheetTest s) ≡ true) where
   full-sends : (held : List ℕ) (slots : List (List ℕ)) → Runs s held slots → Full slots → length slots ≤ together (probeCount s) (λ _. true) (sent slots)
-  unfolding Runs sent
+  unfolding RunsIn sent
   full-sends held [] runs full = omega arith
   full-sends held (slot ∷ slots) runs full =
       let pass = legal-listed s ok held slot (runs .0) in

@@ -6,6 +6,7 @@ use mathlib.Core.List.{List, [], _∷_, _++_, append-nil}
 use Prim.Native.Nat.{ℕ, _+_, _-_, _*_, min}
 use native.Mathlib.Omega.{arith}
 use lib.ListN.{length}
+use Rattle.meaning.specs.declared.Mode.the-variants.{Packets}
 use Rattle.meaning.specs.declared.Verdict.{Verdict}
 use Rattle.meaning.specs.Words.{forEach, sumProbes}
 use Rattle.meaning.specs.Sheet.{probeCount, packetsOf, hops, allPackets}
@@ -23,7 +24,7 @@ use Rattle.arrangement.proofs.Written.{written, own-packets}
 use Rattle.arrangement.proofs.Hung.{Hangs, hung-ok, hung-hops}
 
 -- a plan of our own whose hops are the packets has as many slots
-as-packets : (s : List ℕ) (way : Way) → OwnPlan s way → hops s ≡ allPackets s → length (slotsOf s way) ≡ allPackets s
+as-packets : (s : List ℕ) (way : Way) → OwnPlan Packets s way → hops s ≡ allPackets s → length (slotsOf s way) ≡ allPackets s
 as-packets s way own e =
     omega (
       arith,

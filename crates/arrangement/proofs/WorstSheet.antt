@@ -9,6 +9,7 @@ use native.Mathlib.Omega.{arith}
 use lib.Dec.{eqb}
 use lib.ListN.{length}
 use borrow.Author.Tests.{eq-eqb, ne-eqb}
+use Rattle.meaning.specs.declared.Mode.the-variants.{Packets}
 use Rattle.meaning.specs.declared.Verdict.{Verdict}
 use Rattle.meaning.specs.Sheet.{probeCount, pairCount, pairRecords, parentOf, packetsOf, hops, interfere}
 use Rattle.meaning.specs.Plan.{planBytes}
@@ -134,7 +135,7 @@ module _ (s : List ℕ) where
         omega (arith, worst-hops, crowded-slots (worstSheet s) plan passed (subst (λ (w : List ℕ). Exclusive w (λ _. true)) is-chain crowded))
 
     -- and a plan of our own has just these
-    exactly : (way : Way) → OwnPlan (worstSheet s) way → length (slotsOf (worstSheet s) way) ≡ worstSlots s
+    exactly : (way : Way) → OwnPlan Packets (worstSheet s) way → length (slotsOf (worstSheet s) way) ≡ worstSlots s
     exactly way own =
         omega (
           arith,

@@ -8,6 +8,7 @@ use native.Mathlib.Omega.{arith}
 use borrow.Author.Tests.{lt-ltb, le-ltb, eq-eqb, ne-eqb}
 use lib.Dec.{ltb}
 use lib.ListN.{length, getD}
+use Rattle.meaning.specs.declared.Mode.the-variants.{Packets}
 use Rattle.meaning.specs.declared.Booked.{Booked}
 use Rattle.meaning.specs.declared.Judgement.{Judgement}
 use Rattle.meaning.specs.declared.Names.{Names}
@@ -18,7 +19,7 @@ use Rattle.meaning.specs.Yard.{isProbe}
 use Rattle.meaning.specs.Sheet.{twoAt, probeCount, parentOf, packetsOf}
 use Rattle.meaning.specs.Plan.{slotsFrom, front}
 use Rattle.meaning.specs.Answer.{accepted, isAccepted, given, _then_, sheetTest}
-use Rattle.meaning.specs.Judge.{judge, judgement}
+use Rattle.meaning.specs.Judge.{judgeIn, judge, judgementIn, judgement}
 use Rattle.meaning.specs.Legal.{Good}
 use Rattle.meaning.specs.Book.{wakeBook, BookMade, bookMade}
 use Rattle.laws.proofs.Turns.{forEach-same, getD-tab}
@@ -93,17 +94,17 @@ module _ (s plan : List ℕ) (judged : Judgement) (is : judged ≡ judgement s p
     passes = eq-eqb (judged .verdict .outcome .number) 0 none
 
     verdict : judged .verdict ≡ judge s plan
-    unfolding judgement
+    unfolding judgementIn
     verdict = ap (λ (j : Judgement). j .verdict) is
 
     clean : judged .verdict .outcome ≡ accepted
-    clean = ap (λ (v : Verdict). v .outcome) (verdict ∙ good-passed s plan (exact passes))
+    clean = ap (λ (v : Verdict). v .outcome) (verdict ∙ good-passed Packets s plan (exact passes))
 
     passed : isAccepted (judge s plan .outcome) ≡ true
     passed = ap (λ (v : Verdict). isAccepted (v .outcome)) (sym verdict) ∙ passes
 
     slots : judged .verdict .slots ≡ twoAt plan 0
-    unfolding judge
+    unfolding judgeIn
     slots = ap (λ (v : Verdict). v .slots) verdict ∙ ap (λ (b : Bool). cond b (twoAt plan 0) 0) passed
 
     ok : isAccepted (sheetTest s) ≡ true

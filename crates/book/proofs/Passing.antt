@@ -15,7 +15,7 @@ use Rattle.meaning.specs.Sheet.{probeCount, parentOf}
 use Rattle.meaning.specs.Rounds.{moved}
 use Rattle.meaning.specs.Answer.{isAccepted, sheetTest}
 use Rattle.meaning.specs.Book.{someSender, slotsWhere}
-use Rattle.meaning.specs.Legal.{Legal, Runs}
+use Rattle.meaning.specs.Legal.{Legal, RunsIn, Runs}
 use Rattle.laws.proofs.Turns.{some-where, some-found, none-some}
 use Rattle.laws.proofs.Walk.{not-both, probe-yes, probe-most}
 use Rattle.laws.proofs.Slots.{true-or-false}
@@ -221,7 +221,7 @@ module _ (s : List ℕ) (ok : isAccepted (sheetTest s) ≡ true) (sent heard : �
   pub slots-noted : (held : List ℕ) (number : ℕ) (slots : List (List ℕ)) → Runs s held slots → (l m : ℕ → List ℕ)
       → Fit (probeCount s) sent (passed s own number slots l) → Fit (probeCount s) heard (passed s (parentOf s) number slots m)
       → notedSlots at number slots (book l m) ≡ book (passed s own number slots l) (passed s (parentOf s) number slots m)
-  unfolding Runs notedSlots slotsWhere
+  unfolding RunsIn notedSlots slotsWhere
   slots-noted held number [] runs l m fit fit₂ =
       making-same (probeCount s) sent heard a b tail l (passed s own number [] l) m (passed s (parentOf s) number [] m) (λ k _. sym (append-nil (l k)))
       (λ k _. sym (append-nil (m k)))

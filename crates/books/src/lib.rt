@@ -10,6 +10,7 @@ use files::within;
 use libc::STDOUT_FILENO;
 use meaning::Booked;
 use meaning::Judgement;
+use meaning::Mode;
 use meaning::Probe;
 use meaning::Verdict;
 
@@ -32,7 +33,7 @@ fn say_refused(to: i32, booked: Booked) -> u8
     let names = booked.names;
     let verdict = Verdict { outcome, slots: 0 };
     let mut line = [0u8; wording::ANY_ANSWER];
-    let m = wording::verdict(&mut line, Judgement { verdict, names });
+    let m = wording::verdict(&mut line, Mode::Packets, Judgement { verdict, names });
     files::say_answer(to, &line[..m], outcome)
 }
 

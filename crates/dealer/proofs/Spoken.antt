@@ -1,18 +1,20 @@
 -- Which sentences an answer has, and how long they can be: part by part.
 use mathlib.Core.Path.{_≡_, refl}
 use mathlib.Core.Bool.{Bool, true, false, cond}
-use mathlib.Core.List.{[], _++_}
+use mathlib.Core.List.{List, [], _++_}
 use Prim.Native.Nat.{ℕ, _+_, _/_, _%_, _≤_, _<_}
 use native.Mathlib.Omega.{arith}
 use borrow.Author.Tests.{eq-eqb, ne-eqb, lt-ltb, le-ltb}
 use lib.Dec.{eqb, ltb}
 use lib.ListN.{length}
+use Rattle.meaning.specs.declared.Outcome.{Outcome}
 use Rattle.meaning.specs.declared.Told.{Told}
+use Rattle.meaning.specs.declared.MergedTold.{MergedTold}
 use Rattle.meaning.specs.Lister.{text, decimal}
 use Rattle.wording.specs.Worded.{refusedLine}
 use Rattle.wording.proofs.AnswersLong.{Within, counted, both, numbered, digits-long}
 use Rattle.dealer.specs.SlotLength.{down, up, secondsOf}
-use Rattle.dealer.specs.Sentences.{minutes, timed, leastSaid, oursSaid, mostSaid, nobodySaid, sentences, askedText, spreadText}
+use Rattle.dealer.specs.Sentences.{minutes, timed, atLeast, leastSaid, mergedSaid, oursSaid, mostSaid, nobodySaid, sentences, mergedSentences, orRefused, spreadText}
 
 -- a slot's length is known, or not
 module _ (slots ms rounding : ℕ) where
@@ -35,14 +37,12 @@ module _ (least ours times : ℕ) where
   none-shorter least-slots = rw (le-ltb least ours least-slots)
 
 -- a sheet is answered, or refused
-module _ (told : Told) (ms : ℕ) where
-  pub asked-sentences : told .outcome .number ≡ 0 → sentences told ms ≡ askedText told ms
-  unfolding askedText
-  asked-sentences e = rw (eq-eqb (told .outcome .number) 0 e)
+module _ (outcome : Outcome) (answer : List ℕ) where
+  pub sheet-answered : outcome .number ≡ 0 → answer ≡ orRefused outcome answer
+  sheet-answered e = rw (eq-eqb (outcome .number) 0 e)
 
-  pub asked-refused : (told .outcome .number ≡ 0 → ⊥) → refusedLine (told .outcome) ≡ askedText told ms
-  unfolding askedText
-  asked-refused ne = rw (ne-eqb (told .outcome .number) 0 ne)
+  pub sheet-refused : (outcome .number ≡ 0 → ⊥) → refusedLine outcome ≡ orRefused outcome answer
+  sheet-refused ne = rw (ne-eqb (outcome .number) 0 ne)
 
 -- how long each part can be
 time-long : (slots ms rounding : ℕ) → Within (timed slots ms rounding) 20
@@ -56,13 +56,21 @@ time-long slots ms rounding = go (eqb ms 0)
         both (both (both (counted {bytes = text " ("} {most = 2} refl) (digits-long (all / 60))) (numbered {a = 4} " min" (all % 60) (counted refl)))
         (counted {bytes = text " s)"} {most = 3} refl)
 
-least-long : (slots ms : ℕ) → Within (leastSaid slots ms) 77
-unfolding text leastSaid
-least-long slots ms =
+at-least-long : {a : ℕ} {reading : List ℕ} (slots ms : ℕ) → Within reading a → Within (atLeast reading slots ms) (a + 21 + 6 + 20 + 19)
+unfolding text
+at-least-long slots ms h =
     both
-    (both (both (numbered {a = 26} "One reading takes at least" slots (counted refl)) (counted {bytes = text " slots"} {most = 6} refl))
+    (both (both (both h (numbered {a = 15} " takes at least" slots (counted refl))) (counted {bytes = text " slots"} {most = 6} refl))
     (time-long slots ms down))
     (counted {bytes = text ", whoever plans it."} {most = 19} refl)
+
+least-long : (slots ms : ℕ) → Within (leastSaid slots ms) 77
+unfolding text leastSaid
+least-long slots ms = at-least-long slots ms (counted {bytes = text "One reading"} {most = 11} refl)
+
+merged-long : (slots ms : ℕ) → Within (mergedSaid slots ms) 84
+unfolding text mergedSaid
+merged-long slots ms = at-least-long slots ms (counted {bytes = text "One merged reading"} {most = 18} refl)
 
 ours-long : (slots ms : ℕ) → Within (oursSaid slots ms) 42
 unfolding text oursSaid
@@ -88,6 +96,13 @@ pub sentences-most : (told : Told) (ms : ℕ) → length (sentences told ms) ≤
 sentences-most told ms =
     let slots = both (both (least-long (told .least) ms) (ours-long (told .ours) ms)) (most-long (told .most) ms) in
     let all = both slots (nobody-long (told .least) (told .ours) (told .times)) in
+    omega (arith, all .short)
+
+pub merged-most : (told : MergedTold) (ms : ℕ) → length (mergedSentences told ms) ≤ 256
+unfolding text
+merged-most told ms =
+    let slots = both (both (merged-long (told .least) ms) (ours-long (told .ours) ms)) (most-long (told .most) ms) in
+    let all = both slots (counted {bytes = text "\n"} {most = 1} refl) in
     omega (arith, all .short)
 
 pub spread-most : (best worst : ℕ) → length (spreadText best worst) ≤ 256

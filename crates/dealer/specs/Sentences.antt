@@ -1,9 +1,11 @@
--- RULES, "The answers in words": what is said on the telephone, four sentences, their slots with minutes and seconds too where a slot's length is known.
+-- RULES, "The answers in words": what is said on the telephone, four sentences, of merged readings three, with minutes and seconds where a slot's length is known.
 use mathlib.Core.Bool.{cond}
 use mathlib.Core.List.{[], _++_}
 use Prim.Native.Nat.{ℕ, _/_, _%_}
 use lib.Dec.{eqb, ltb}
+use Rattle.meaning.specs.declared.Outcome.{Outcome}
 use Rattle.meaning.specs.declared.Told.{Told}
+use Rattle.meaning.specs.declared.MergedTold.{MergedTold}
 use Rattle.meaning.specs.Words.{Bytes}
 use Rattle.meaning.specs.Answer.{isAccepted}
 use Rattle.meaning.specs.Lister.{text, decimal, said}
@@ -18,9 +20,15 @@ minutes seconds = text " (" ++ decimal 5 (seconds / 60) ++ said " min" (seconds 
 unfoldable pub timed : (slots ms rounding : ℕ) → Bytes
 timed slots ms rounding = cond (eqb ms 0) [] (minutes (secondsOf slots ms rounding))
 
--- no plan takes fewer slots: the time is rounded down
+-- no plan for such a reading takes fewer slots: the time is rounded down
+abbrev pub atLeast : (reading : Bytes) → (slots ms : ℕ) → Bytes
+atLeast reading slots ms = reading ++ said " takes at least" slots ++ text " slots" ++ timed slots ms down ++ text ", whoever plans it."
+
 unfoldable pub leastSaid : (slots ms : ℕ) → Bytes
-leastSaid slots ms = said "One reading takes at least" slots ++ text " slots" ++ timed slots ms down ++ text ", whoever plans it."
+leastSaid slots ms = atLeast (text "One reading") slots ms
+
+unfoldable pub mergedSaid : (slots ms : ℕ) → Bytes
+mergedSaid slots ms = atLeast (text "One merged reading") slots ms
 
 -- our plan by probe: the time is rounded up
 unfoldable pub oursSaid : (slots ms : ℕ) → Bytes
@@ -38,9 +46,19 @@ nobodySaid least ours times =
 abbrev pub sentences : Told → (ms : ℕ) → Bytes
 sentences told ms = leastSaid (told .least) ms ++ oursSaid (told .ours) ms ++ mostSaid (told .most) ms ++ nobodySaid (told .least) (told .ours) (told .times)
 
--- the sentences, or the line of a refusal
+-- sentences, or the line of a refusal
+abbrev pub orRefused : Outcome → (answer : Bytes) → Bytes
+orRefused outcome answer = cond (isAccepted outcome) answer (refusedLine outcome)
+
 unfoldable pub askedText : Told → (ms : ℕ) → Bytes
-askedText told ms = cond (isAccepted (told .outcome)) (sentences told ms) (refusedLine (told .outcome))
+askedText told ms = orRefused (told .outcome) (sentences told ms)
+
+-- "Merged readings", on the telephone: three sentences
+abbrev pub mergedSentences : MergedTold → (ms : ℕ) → Bytes
+mergedSentences told ms = mergedSaid (told .least) ms ++ oursSaid (told .ours) ms ++ mostSaid (told .most) ms ++ text "\n"
+
+unfoldable pub mergedText : MergedTold → (ms : ℕ) → Bytes
+mergedText told ms = orRefused (told .outcome) (mergedSentences told ms)
 
 -- RULES, "The answers in words": the slots of the best and of the worst arrangement of the same probes
 unfoldable pub spreadText : (best worst : ℕ) → Bytes

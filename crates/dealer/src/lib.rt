@@ -1,11 +1,12 @@
-// The telephone in the dealer's words: how long a slot is, the four sentences about a sheet, and the line about other arrangements of its probes.
+// The telephone in the dealer's words: how long a slot is, the sentences about a sheet and its merged readings, and the line about other arrangements of its probes.
 ghost use mathlib.Core.Path.{_≡_};
 ghost use Prim.Native.Nat.{_≤_, min};
 ghost use lib.ListN.{length, take};
 ghost use Rattle.lines.specs.Line.{lineLength, lineIn};
 ghost use Rattle.wording.specs.Fits.{Fits};
 ghost use Rattle.dealer.specs.SlotLength.{longestSlot, millisecondsSaid, secondsOf};
-ghost use Rattle.dealer.specs.Sentences.{timed, leastSaid, oursSaid, mostSaid, nobodySaid, sentences, askedText, spreadText};
+ghost use Rattle.dealer.specs.Sentences.{timed, atLeast, oursSaid, mostSaid, nobodySaid, sentences, askedText, mergedSentences, mergedText, spreadText};
+use meaning::MergedTold;
 use meaning::Told;
 
 // A slot is at most a minute long, in milliseconds.
@@ -54,14 +55,15 @@ fn put_timed(slots: u16, ms: u16, rounding: u16, out: &mut [u8], at: usize) -> u
     lines::put_words(b" s)", out, b)
 }
 
-// Puts the sentence about any plan at a place; says where it ends.
-fn put_least(slots: u16, ms: u16, out: &mut [u8], at: usize) -> usize
-    ensures { λ r. ⌜ Fits (now (out .entry)) at (leastSaid slots ms) (now (out .exit)) r ⌝ }
+// Puts the sentence about any plan for such a reading at a place; says where it ends.
+fn put_at_least(reading: &[u8], slots: u16, ms: u16, out: &mut [u8], at: usize) -> usize
+    ensures { λ r. ⌜ Fits (now (out .entry)) at (atLeast (now (reading .entry)) slots ms) (now (out .exit)) r ⌝ }
 {
-    let a = lines::put_counted(b"One reading takes at least ", slots, out, at);
-    let b = lines::put_words(b" slots", out, a);
-    let d = put_timed(slots, ms, 0, out, b);
-    lines::put_words(b", whoever plans it.", out, d)
+    let a = lines::put_words(reading, out, at);
+    let b = lines::put_counted(b" takes at least ", slots, out, a);
+    let d = lines::put_words(b" slots", out, b);
+    let e = put_timed(slots, ms, 0, out, d);
+    lines::put_words(b", whoever plans it.", out, e)
 }
 
 // The same of our plan.
@@ -97,7 +99,7 @@ fn put_nobody(least: u16, ours: u16, times: u8, out: &mut [u8], at: usize) -> us
 fn put_sentences(told: Told, ms: u16, out: &mut [u8], at: usize) -> usize
     ensures { λ r. ⌜ Fits (now (out .entry)) at (sentences told ms) (now (out .exit)) r ⌝ }
 {
-    let a = put_least(told.least, ms, out, at);
+    let a = put_at_least(b"One reading", told.least, ms, out, at);
     let b = put_ours(told.ours, ms, out, a);
     let d = put_most(told.most, ms, out, b);
     put_nobody(told.least, told.ours, told.times, out, d)
@@ -115,6 +117,31 @@ pub fn asked(out: &mut [u8], told: Told, ms: u16) -> usize
     }
     let mut line = [0u8; wording::ANY_ANSWER];
     let n = put_sentences(told, ms, &mut line, 0);
+    lines::put_words(&line[..n], out, 0)
+}
+
+// Puts the three sentences about merged readings at a place; says where they end.
+fn put_merged(told: MergedTold, ms: u16, out: &mut [u8], at: usize) -> usize
+    ensures { λ r. ⌜ Fits (now (out .entry)) at (mergedSentences told ms) (now (out .exit)) r ⌝ }
+{
+    let first = put_at_least(b"One merged reading", told.least, ms, out, at);
+    let second = put_ours(told.ours, ms, out, first);
+    let third = put_most(told.most, ms, out, second);
+    lines::put_words(b"\n", out, third)
+}
+
+// The same of a sheet's merged readings.
+pub fn merged_asked(out: &mut [u8], told: MergedTold, ms: u16) -> usize
+    ensures part { λ r. ⌜ (r ≤ length (now (out .exit))) × (r ≡ length (take r (now (out .exit)))) ⌝ }
+    ensures answer { λ r. ⌜ r ≡ lineLength (now (out .entry)) (mergedText told ms) ⌝ }
+    ensures buffer { λ _. ⌜ now (out .exit) ≡ lineIn (now (out .entry)) (mergedText told ms) ⌝ }
+{
+    let outcome = told.outcome;
+    if outcome.number != 0 {
+        return wording::refused(out, outcome);
+    }
+    let mut line = [0u8; wording::ANY_ANSWER];
+    let n = put_merged(told, ms, &mut line, 0);
     lines::put_words(&line[..n], out, 0)
 }
 

@@ -1,9 +1,10 @@
--- The answers of RULES, "Numbers returned", "The wake book", "The telephone", "Worst and best" and "A graph as text", as C sees them.
+-- The answers of RULES, "Numbers returned", "The wake book", "The telephone", "Merged readings", "Worst and best" and "A graph as text", as C sees them.
 use Prim.Native.Nat.{ℕ}
 use Rattle.meaning.specs.declared.Planned.{Planned}
 use Rattle.meaning.specs.declared.Judgement.{Judgement}
 use Rattle.meaning.specs.declared.Booked.{Booked}
 use Rattle.meaning.specs.declared.Told.{Told}
+use Rattle.meaning.specs.declared.MergedTold.{MergedTold}
 use Rattle.meaning.specs.declared.Choice.{Choice}
 use Rattle.meaning.specs.declared.Choice.the-variants.{Neither, First, Second}
 use Rattle.arrangement.specs.declared.Spread.{Spread}
@@ -13,6 +14,7 @@ use Rattle.gateway.specs.declared.YardPlanned.{YardPlanned}
 use Rattle.gateway.specs.declared.YardVerdict.{YardVerdict}
 use Rattle.gateway.specs.declared.YardBooked.{YardBooked}
 use Rattle.gateway.specs.declared.YardTold.{YardTold}
+use Rattle.gateway.specs.declared.YardMergedTold.{YardMergedTold}
 use Rattle.gateway.specs.declared.YardSpread.{YardSpread}
 use Rattle.gateway.specs.declared.YardDrawn.{YardDrawn}
 use Rattle.gateway.specs.declared.YardGraph.{YardGraph}
@@ -44,6 +46,10 @@ flatBooked r =
 abbrev pub flatTold : Told → YardTold
 flatTold r =
     record { number = r .outcome .number; place = r .outcome .place; least = r .least; ours = r .ours; most = r .most; times = r .times }
+
+-- "Merged readings", on the telephone: number, place, and the slots at least, in our plan and at most
+abbrev pub flatMergedTold : MergedTold → YardMergedTold
+flatMergedTold r = record { number = r .outcome .number; place = r .outcome .place; least = r .least; ours = r .ours; most = r .most }
 
 -- "Worst and best": number, place, and the slots at best and at worst
 abbrev pub flatSpread : Spread → YardSpread

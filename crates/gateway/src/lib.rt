@@ -1,19 +1,21 @@
-// The library for gateways: telephone, arrangements, planners, judge, chooser, wake books, lister and graphs over pointers and lengths, as include/yard.h declares them.
+// The library for gateways: telephone, arrangements, planners, judge, chooser, merged readings, wake books, lister and graphs over pointers and lengths, as include/yard.h declares them.
 ghost use mathlib.Core.Path.{_≡_};
 ghost use mathlib.Core.Bool.{false, cond};
 ghost use Prim.Native.Nat.{_+_, _^_, _<_};
 ghost use lib.ListN.{length, getD};
+ghost use Rattle.meaning.specs.declared.Mode.the-variants.{Merged};
 ghost use Rattle.meaning.specs.Plan.{front};
 ghost use Rattle.meaning.specs.Rounds.{byProbe, byLevel};
-ghost use Rattle.meaning.specs.Answer.{planMade};
-ghost use Rattle.meaning.specs.Judge.{judgement, choice};
+ghost use Rattle.meaning.specs.Answer.{planMade, mergedMade};
+ghost use Rattle.meaning.specs.Judge.{judgementIn, judgement, choice};
 ghost use Rattle.meaning.specs.Book.{bookMade};
 ghost use Rattle.meaning.specs.Telephone.{asked};
+ghost use Rattle.meaning.specs.Merged.{mergedAsked};
 ghost use Rattle.arrangement.specs.Arranged.{spreadOf, worstSheet, bestSheet, arranged};
 ghost use Rattle.listing.specs.Listed.{listedLength, listedIn};
 ghost use Rattle.graph.specs.Drawing.{graphMade};
 ghost use Rattle.graph.specs.Reading.{graphRead};
-ghost use Rattle.gateway.specs.Flat.{flatPlanned, flatVerdict, flatBooked, flatTold, flatSpread, flatDrawn, flatGraph, choiceNumber};
+ghost use Rattle.gateway.specs.Flat.{flatPlanned, flatVerdict, flatBooked, flatTold, flatMergedTold, flatSpread, flatDrawn, flatGraph, choiceNumber};
 ghost use Rattle.gateway.specs.Rows.{word, rowWords};
 use arrangement::Spread;
 use graph::Drawn;
@@ -21,6 +23,7 @@ use graph::Graph;
 use meaning::Booked;
 use meaning::Choice;
 use meaning::Judgement;
+use meaning::MergedTold;
 use meaning::Planned;
 use meaning::Told;
 
@@ -63,6 +66,16 @@ pub struct YardTold {
     pub ours: u16,
     pub most: u16,
     pub times: u8,
+}
+
+// What the telephone answers of merged readings, with C's layout.
+#[repr(C)]
+pub struct YardMergedTold {
+    pub number: u8,
+    pub place: u16,
+    pub least: u16,
+    pub ours: u16,
+    pub most: u16,
 }
 
 // The slots of other arrangements, with C's layout.
@@ -143,6 +156,22 @@ fn told(r: Told) -> YardTold
         ours: r.ours,
         most: r.most,
         times: r.times,
+    }
+}
+
+fn merged_told(r: MergedTold) -> YardMergedTold
+    ensures { λ f. ⌜ f ≡ flatMergedTold r ⌝ }
+{
+    let outcome = r.outcome;
+    let least = r.least;
+    let ours = r.ours;
+    let most = r.most;
+    YardMergedTold {
+        number: outcome.number,
+        place: outcome.place,
+        least,
+        ours,
+        most,
     }
 }
 
@@ -290,6 +319,34 @@ pub extern "C" fn yard_choose(sheet: &[u8], first: &[u8], second: &[u8]) -> u8
         Choice::First => 1,
         Choice::Second => 2,
     }
+}
+
+// The plan of merged readings.
+#[no_mangle]
+pub extern "C" fn yard_merged(sheet: &[u8], buf: &mut [u8]) -> YardPlanned
+    ensures answer { λ r. ⌜ r ≡ flatPlanned (mergedMade (now (sheet .entry)) (length (now (buf .entry))) .answer) ⌝ }
+    ensures buffer { λ _. ⌜ now (buf .exit) ≡ front (now (buf .entry)) (mergedMade (now (sheet .entry)) (length (now (buf .entry))) .written) ⌝ }
+{
+    let r = plan::merged(sheet, buf);
+    planned(r)
+}
+
+// The judge of merged readings, with whom it names.
+#[no_mangle]
+pub extern "C" fn yard_merged_judge(sheet: &[u8], plan: &[u8]) -> YardVerdict
+    ensures { λ r. ⌜ r ≡ flatVerdict (judgementIn Merged (now (sheet .entry)) (now (plan .entry))) ⌝ }
+{
+    let r = judge::merged_judgement(sheet, plan);
+    verdict(r)
+}
+
+// The telephone of merged readings.
+#[no_mangle]
+pub extern "C" fn yard_merged_ask(sheet: &[u8]) -> YardMergedTold
+    ensures { λ r. ⌜ r ≡ flatMergedTold (mergedAsked (now (sheet .entry))) ⌝ }
+{
+    let r = merged::ask(sheet);
+    merged_told(r)
 }
 
 // The wake book of a plan.

@@ -1,15 +1,20 @@
-// The judge: a sheet and anybody's plan in, the verdict and whom it names out.
+// The judge, of packets and of merged readings: a sheet and anybody's plan in, the verdict and whom it names out.
 ghost use mathlib.Core.Path.{_≡_};
 ghost use mathlib.Core.Bool.{true};
 ghost use Prim.Native.Nat.{_≤_};
 ghost use lib.ListN.{length};
 ghost use Rattle.meaning.specs.Words.{byNode};
 ghost use Rattle.meaning.specs.Conflict.{entry};
-ghost use Rattle.meaning.specs.Judge.{slotJudged, slotsJudged, planJudgedBy, planNamesBy, judgement};
+ghost use Rattle.meaning.specs.declared.Mode.the-variants.{Merged};
+ghost use Rattle.meaning.specs.Rounds.{mayIn};
+ghost use Rattle.meaning.specs.Judge.{slotTested, slotJudged, slotsJudged, planJudgedBy, planNamesBy, judgementIn, judgement};
 ghost use Rattle.meaning.specs.Answer.{isAccepted};
-ghost use Rattle.meaning.specs.Legal.{Good};
+ghost use Rattle.meaning.specs.Legal.{GoodIn, Good};
+ghost use Rattle.meaning.specs.Merged.{MergedGood};
+ghost use Rattle.laws.specs.Few.{atMost63};
 ghost use Rattle.judge.specs.SlotTurn.{judging, judgingFrom, Named, Ready, unnamedAt, refusedVerdict};
 use meaning::Judgement;
+use meaning::Mode;
 use meaning::Outcome;
 use meaning::Slot;
 use meaning::Tested;
@@ -31,8 +36,31 @@ fn unnamed(number: u8, place: u16) -> Tested
     }
 }
 
-// The slot at a place, 11 first, which names nobody; a passed slot moves its packets.
+// 12 to 15 of one slot, by what may be sent of what is held: every packet, or the readings that are ready.
+fn tested(
+    mode: Mode,
+    p: u8,
+    parents: &[u8; 65],
+    table: &[[bool; 65]; 65],
+    held: &[u16; 65],
+    number: Slot,
+    slot: &[u8],
+) -> Tested
+    ensures { λ r. ⌜ r ≡ slotTested (atMost63 p) (entry (now (table .entry)))
+        (mayIn mode (atMost63 p) (byNode (now (parents .entry))) (now (held .entry))) (number .0) (now (slot .entry)) ⌝ }
+{
+    match mode {
+        Mode::Packets => slot::slot_tested(p, table, held, number, slot),
+        Mode::Merged => {
+            let may = sending::ready(p, parents, held);
+            slot::slot_tested(p, table, &may, number, slot)
+        }
+    }
+}
+
+// The slot at a place, 11 first, which names nobody; a passed slot moves what its senders send.
 fn slot_judged(
+    mode: Mode,
     p: u8,
     parents: &[u8; 65],
     table: &[[bool; 65]; 65],
@@ -42,10 +70,10 @@ fn slot_judged(
     held: &mut [u16; 65],
 ) -> Judged
     requires inside { ⌜ at ≤ length (now plan) ⌝ }
-    requires ready { ⌜ Ready p (byNode (now parents)) (now held) ⌝ }
+    requires ready { ⌜ Ready mode p (byNode (now parents)) (now held) ⌝ }
     ensures answer { λ r. ⌜ judging r (now (held .exit))
-        ≡ slotJudged p (byNode (now (parents .entry))) (entry (now (table .entry))) (now (plan .entry)) (number .0) (judgingFrom at (now (held .entry))) ⌝ }
-    ensures names { λ r. ⌜ Named p (entry (now (table .entry))) (now (plan .entry)) r (now (held .exit)) ⌝ }
+        ≡ slotJudged mode p (byNode (now (parents .entry))) (entry (now (table .entry))) (now (plan .entry)) (number .0) (judgingFrom at (now (held .entry))) ⌝ }
+    ensures names { λ r. ⌜ Named mode p (byNode (now (parents .entry))) (entry (now (table .entry))) (now (plan .entry)) r (now (held .exit)) ⌝ }
 {
     let here = slot::slot_at(plan, at);
     let first = here.first;
@@ -55,17 +83,18 @@ fn slot_judged(
         return Judged { tested, at };
     }
     let slot = &plan[first..next];
-    let tested = slot::slot_tested(p, table, held, number, slot);
+    let tested = tested(mode, p, parents, table, held, number, slot);
     let outcome = tested.outcome;
     if outcome.number != 0 {
         return Judged { tested, at };
     }
-    slot::move_packets(parents, slot, held);
+    sending::send(mode, parents, slot, held);
     Judged { tested, at: next }
 }
 
 // The slots of a plan in order, up to the first that is refused.
 fn slots_judged(
+    mode: Mode,
     p: u8,
     parents: &[u8; 65],
     table: &[[bool; 65]; 65],
@@ -74,16 +103,16 @@ fn slots_judged(
     held: &mut [u16; 65],
 ) -> Judged
     requires two { ⌜ 2 ≤ length (now plan) ⌝ }
-    requires ready { ⌜ Ready p (byNode (now parents)) (now held) ⌝ }
+    requires ready { ⌜ Ready mode p (byNode (now parents)) (now held) ⌝ }
     ensures answer { λ r. ⌜ judging r (now (held .exit))
-        ≡ slotsJudged p (byNode (now (parents .entry))) (entry (now (table .entry))) (now (plan .entry)) many (judgingFrom 2 (now (held .entry))) ⌝ }
-    ensures names { λ r. ⌜ Named p (entry (now (table .entry))) (now (plan .entry)) r (now (held .exit)) ⌝ }
+        ≡ slotsJudged mode p (byNode (now (parents .entry))) (entry (now (table .entry))) (now (plan .entry)) many (judgingFrom 2 (now (held .entry))) ⌝ }
+    ensures names { λ r. ⌜ Named mode p (byNode (now (parents .entry))) (entry (now (table .entry))) (now (plan .entry)) r (now (held .exit)) ⌝ }
 {
     let mut tested = meaning::PASSED;
     let mut at: usize = 2;
     let mut k: u16 = 0;
     while k < many {
-        let one = slot_judged(p, parents, table, plan, Slot(k + 1), at, held);
+        let one = slot_judged(mode, p, parents, table, plan, Slot(k + 1), at, held);
         tested = one.tested;
         at = one.at;
         let outcome = tested.outcome;
@@ -97,20 +126,21 @@ fn slots_judged(
 
 // The slots of a plan, then 16, then 17.
 fn plan_judged_by(
+    mode: Mode,
     p: u8,
     parents: &[u8; 65],
     table: &[[bool; 65]; 65],
-    packets: [u8; 65],
+    first: [u16; 65],
     plan: &[u8],
 ) -> Tested
     requires two { ⌜ 2 ≤ length (now plan) ⌝ }
-    requires ready { ⌜ Ready p (byNode (now parents)) packets ⌝ }
-    ensures answer { λ r. ⌜ r .outcome ≡ planJudgedBy p (byNode (now (parents .entry))) (entry (now (table .entry))) packets (now (plan .entry)) ⌝ }
-    ensures names { λ r. ⌜ r .names ≡ planNamesBy p (byNode (now (parents .entry))) (entry (now (table .entry))) packets (now (plan .entry)) (r .outcome .number) ⌝ }
+    requires ready { ⌜ Ready mode p (byNode (now parents)) first ⌝ }
+    ensures answer { λ r. ⌜ r .outcome ≡ planJudgedBy mode p (byNode (now (parents .entry))) (entry (now (table .entry))) first (now (plan .entry)) ⌝ }
+    ensures names { λ r. ⌜ r .names ≡ planNamesBy mode p (byNode (now (parents .entry))) (entry (now (table .entry))) first (now (plan .entry)) (r .outcome .number) ⌝ }
 {
     let many = slot::slot_count(plan);
-    let mut held = slot::wide(packets);
-    let end = slots_judged(p, parents, table, plan, many, &mut held);
+    let mut held = first;
+    let end = slots_judged(mode, p, parents, table, plan, many, &mut held);
     let tested = end.tested;
     let outcome = tested.outcome;
     if outcome.number != 0 {
@@ -136,10 +166,10 @@ fn refused(tested: Tested) -> Judgement
 }
 
 // Judges a plan against a sheet: the sheet first, then the plan; names whom a refused slot blames.
-pub fn judgement(sheet: &[u8], plan: &[u8]) -> Judgement
-    ensures answer { λ r. ⌜ r ≡ judgement (now (sheet .entry)) (now (plan .entry)) ⌝ }
-    ensures exact { λ r. ⌜ (isAccepted (r .verdict .outcome) ≡ true → Good (now (sheet .entry)) (now (plan .entry)))
-        × (Good (now (sheet .entry)) (now (plan .entry)) → isAccepted (r .verdict .outcome) ≡ true) ⌝ }
+fn judgement_in(mode: Mode, sheet: &[u8], plan: &[u8]) -> Judgement
+    ensures answer { λ r. ⌜ r ≡ judgementIn mode (now (sheet .entry)) (now (plan .entry)) ⌝ }
+    ensures exact { λ r. ⌜ (isAccepted (r .verdict .outcome) ≡ true → GoodIn mode (now (sheet .entry)) (now (plan .entry)))
+        × (GoodIn mode (now (sheet .entry)) (now (plan .entry)) → isAccepted (r .verdict .outcome) ≡ true) ⌝ }
 {
     let tree = sheet::read(sheet);
     let read = tree.outcome;
@@ -156,7 +186,8 @@ pub fn judgement(sheet: &[u8], plan: &[u8]) -> Judgement
     let parents = tree.parents;
     let packets = tree.packets;
     let table = sheet::conflicts(sheet, p, parents);
-    let tested = plan_judged_by(p, &parents, &table, packets, plan);
+    let first = sending::first_held(mode, p, packets);
+    let tested = plan_judged_by(mode, p, &parents, &table, first, plan);
     let outcome = tested.outcome;
     if outcome.number != 0 {
         return refused(tested);
@@ -167,4 +198,22 @@ pub fn judgement(sheet: &[u8], plan: &[u8]) -> Judgement
         slots: slot::slot_count(plan),
     };
     Judgement { verdict, names }
+}
+
+// Judges a plan that brings in every packet.
+pub fn judgement(sheet: &[u8], plan: &[u8]) -> Judgement
+    ensures answer { λ r. ⌜ r ≡ judgement (now (sheet .entry)) (now (plan .entry)) ⌝ }
+    ensures exact { λ r. ⌜ (isAccepted (r .verdict .outcome) ≡ true → Good (now (sheet .entry)) (now (plan .entry)))
+        × (Good (now (sheet .entry)) (now (plan .entry)) → isAccepted (r .verdict .outcome) ≡ true) ⌝ }
+{
+    judgement_in(Mode::Packets, sheet, plan)
+}
+
+// Judges a merged plan, in which each probe sends once, after all its children.
+pub fn merged_judgement(sheet: &[u8], plan: &[u8]) -> Judgement
+    ensures answer { λ r. ⌜ r ≡ judgementIn Merged (now (sheet .entry)) (now (plan .entry)) ⌝ }
+    ensures exact { λ r. ⌜ (isAccepted (r .verdict .outcome) ≡ true → MergedGood (now (sheet .entry)) (now (plan .entry)))
+        × (MergedGood (now (sheet .entry)) (now (plan .entry)) → isAccepted (r .verdict .outcome) ≡ true) ⌝ }
+{
+    judgement_in(Mode::Merged, sheet, plan)
 }

@@ -9,17 +9,18 @@ use native.Mathlib.Omega.{arith}
 use lib.Dec.{ltb}
 use lib.ListN.{length, getD}
 use lib.Seq.{getD-append-seam}
+use Rattle.meaning.specs.declared.Mode.{Mode}
 use Rattle.meaning.specs.declared.Outcome.{Outcome}
 use Rattle.meaning.specs.declared.Names.{Names}
 use Rattle.meaning.specs.Words.{Bytes, Node, Slots, Relation, forEach}
 use Rattle.meaning.specs.Sheet.{twoAt, probeCount, parentOf}
 use Rattle.meaning.specs.Conflict.{entry, conflictTable}
 use Rattle.meaning.specs.Plan.{nextAt, sendersAt, slotsFrom}
-use Rattle.meaning.specs.Rounds.{outside, moved, heldAfter}
-use Rattle.meaning.specs.Judge.{slotTest, nobody, slotNames, Judging, slotJudged, slotsJudged, slotsDone, planJudgedBy, planJudged, judge, planNamesBy, planNames, judgement}
+use Rattle.meaning.specs.Rounds.{outside, moved, heldAfter, mayIn, goesIn}
+use Rattle.meaning.specs.Judge.{slotTest, nobody, slotNames, Judging, slotJudged, slotsJudged, slotsDone, planJudgedBy, planJudged, judgeIn, planNamesBy, planNames, judgementIn}
 use Rattle.meaning.specs.Answer.{accepted, isAccepted, given, _then_, sheetTest}
-use Rattle.meaning.specs.Legal.{clash, heldFirst}
-use Rattle.meaning.specs.Blame.{Blames, slotOfPlan, heldBefore, NamesRightly}
+use Rattle.meaning.specs.Legal.{clash, mayOf, goesOf, heldIn}
+use Rattle.meaning.specs.Blame.{Blames, slotOfPlan, mayBefore, NamesRightlyIn}
 use Rattle.laws.proofs.Walk.{not-both}
 use Rattle.laws.proofs.Passed.{Passes, Refused, turn}
 use Rattle.laws.proofs.Exact.{held-append, table-clash}
@@ -68,30 +69,30 @@ refused-stays answer moves stays same h = go (isAccepted answer) refl h
     go true e refused = not-both e (ap (λ (o : Outcome). isAccepted o) (sym same) ∙ refused)
     go false e refused = refl
 
-module _ (p : ℕ) (parent : Node → Node) (relation : Relation) (packets : List ℕ) (plan : Bytes) where
+module _ (mode : Mode) (p : ℕ) (parent : Node → Node) (relation : Relation) (packets : List ℕ) (plan : Bytes) where
   -- the judge after n turns
   abbrev pub judged : ℕ → Judging
-  judged n = slotsJudged p parent relation plan n (record { outcome = accepted; at = 2; held = packets })
+  judged n = slotsJudged mode p parent relation plan n (record { outcome = accepted; at = 2; held = packets })
 
   -- what a slot's turn answers
   abbrev answered : (place : ℕ) → Judging → Outcome
   answered place now =
-      given 11 place (ltb (length plan) (nextAt plan (now .at))) then slotTest p relation (now .held) place (sendersAt plan (now .at))
+      given 11 place (ltb (length plan) (nextAt plan (now .at))) then slotTest p relation (mayIn mode p parent (now .held)) place (sendersAt plan (now .at))
 
   -- a refused slot leaves the judge where it is
-  slot-refused : (place : ℕ) (now : Judging) → isAccepted (slotJudged p parent relation plan place now .outcome) ≡ false
-      → slotJudged p parent relation plan place now ≡ record { outcome = answered place now; at = now .at; held = now .held }
+  slot-refused : (place : ℕ) (now : Judging) → isAccepted (slotJudged mode p parent relation plan place now .outcome) ≡ false
+      → slotJudged mode p parent relation plan place now ≡ record { outcome = answered place now; at = now .at; held = now .held }
   unfolding slotJudged
   slot-refused place now h = refused-stays (answered place now) _ _ refl h
 
   -- one turn more, by whether nothing is wrong so far
   abbrev onward : ℕ → Bool → Judging
-  onward k fine = cond fine (slotJudged p parent relation plan (k + 1) (judged k)) (judged k)
+  onward k fine = cond fine (slotJudged mode p parent relation plan (k + 1) (judged k)) (judged k)
 
   -- the judge has passed k slots: it stands where the next begins, and holds what is held behind them
   pub record Stands (k : ℕ) (now : Judging) : Type 0 where
     pub there : now .at ≡ begins plan 2 k
-    pub holding : now .held ≡ heldAfter parent packets (slotsFrom plan 2 k)
+    pub holding : now .held ≡ heldAfter (goesIn mode parent) packets (slotsFrom plan 2 k)
 
   pub stands : (k : ℕ) → isAccepted (judged k .outcome) ≡ true → Stands k (judged k)
   unfolding begins slotsJudged forEach heldAfter slotsFrom
@@ -104,17 +105,17 @@ module _ (p : ℕ) (parent : Node → Node) (relation : Relation) (packets : Lis
       go true e h before =
           let is = before e in
           ⊎-elim
-          (λ (pass : Passes p parent relation plan (k + 1) (judged k)).
+          (λ (pass : Passes mode p parent relation plan (k + 1) (judged k)).
           record {
             there = pass .next ∙ ap (nextAt plan) (is .there) ∙ sym (begins-next plan 2 k);
             holding =
                 pass .moves
-                ∙ ap₂ (λ (at : ℕ) (held : List ℕ). moved parent (sendersAt plan at) held) (is .there) (is .holding)
-                ∙ sym (held-append parent packets (slotsFrom plan 2 k) (sendersAt plan (begins plan 2 k) ∷ []))
-                ∙ ap (heldAfter parent packets) (sym (slots-next plan 2 k));
+                ∙ ap₂ (λ (at : ℕ) (held : List ℕ). moved (goesIn mode parent) (sendersAt plan at) held) (is .there) (is .holding)
+                ∙ sym (held-append (goesIn mode parent) packets (slotsFrom plan 2 k) (sendersAt plan (begins plan 2 k) ∷ []))
+                ∙ ap (heldAfter (goesIn mode parent) packets) (sym (slots-next plan 2 k));
           })
-          (λ (refuses : Refused p parent relation plan (k + 1) (judged k)). not-both h (refuses .refused))
-          (turn p parent relation plan (k + 1) (judged k))
+          (λ (refuses : Refused mode p parent relation plan (k + 1) (judged k)). not-both h (refuses .refused))
+          (turn mode p parent relation plan (k + 1) (judged k))
 
   -- a slot is refused within n turns: so many were passed before it, and there the judge stays
   pub record Stopped (n : ℕ) : Type 0 where
@@ -138,7 +139,7 @@ module _ (p : ℕ) (parent : Node → Node) (relation : Relation) (packets : Lis
   -- this answer is the test of the slot that is refused within n turns
   pub record OfSlot (n : ℕ) (outcome : Outcome) : Type 0 where
     pub stop : Stopped n
-    pub tested : outcome ≡ slotTest p relation (judged (stop .passed) .held) (stop .passed + 1) (sendersAt plan (judged (stop .passed) .at))
+    pub tested : outcome ≡ slotTest p relation (mayIn mode p parent (judged (stop .passed) .held)) (stop .passed + 1) (sendersAt plan (judged (stop .passed) .at))
 
   -- an answer that names someone is a slot's
   abbrev Traced : Outcome → Type 0
@@ -149,7 +150,7 @@ module _ (p : ℕ) (parent : Node → Node) (relation : Relation) (packets : Lis
 
   -- where the judge ends
   abbrev end : Judging
-  end = slotsDone p parent relation packets plan
+  end = slotsDone mode p parent relation packets plan
 
   slots-traced : Traced (end .outcome)
   slots-traced named = go (isAccepted (end .outcome)) refl
@@ -164,7 +165,7 @@ module _ (p : ℕ) (parent : Node → Node) (relation : Relation) (packets : Lis
           (λ _. record { stop = stop; tested = refl }))
           named
 
-  plan-traced : Traced (planJudgedBy p parent relation packets plan)
+  plan-traced : Traced (planJudgedBy mode p parent relation packets plan)
   unfolding planJudgedBy
   plan-traced =
       of-either Traced _ _ slots-traced
@@ -197,39 +198,39 @@ same-blames p f g held slot number names same is =
 abbrev table : (s : Bytes) → Relation
 table s = entry (conflictTable s)
 
-module _ (s plan : Bytes) where
+module _ (mode : Mode) (s plan : Bytes) where
   -- the verdict is the one that stands without names
-  pub without-names : judgement s plan .verdict ≡ judge s plan
-  unfolding judgement
+  pub without-names : judgementIn mode s plan .verdict ≡ judgeIn mode s plan
+  unfolding judgementIn
   without-names = refl
 
   -- a refused sheet names nobody
-  pub refused-names : isAccepted (sheetTest s) ≡ false → judgement s plan .names ≡ nobody
-  unfolding judgement
-  refused-names refused = ap (λ (b : Bool). cond b (planNames s plan (judge s plan .outcome .number)) nobody) refused
+  pub refused-names : isAccepted (sheetTest s) ≡ false → judgementIn mode s plan .names ≡ nobody
+  unfolding judgementIn
+  refused-names refused = ap (λ (b : Bool). cond b (planNames mode s plan (judgeIn mode s plan .outcome .number)) nobody) refused
 
   module _ (ok : isAccepted (sheetTest s) ≡ true) where
     abbrev outcome : Outcome
-    outcome = judge s plan .outcome
+    outcome = judgeIn mode s plan .outcome
 
     -- a number that names someone is of the slot that is refused
     pub named-slot : Naming (outcome .number)
-        → OfSlot (probeCount s) (parentOf s) (table s) (heldFirst s) plan (twoAt plan 0) outcome
-    unfolding judge planJudged
+        → OfSlot mode (probeCount s) (parentOf s) (table s) (heldIn mode s) plan (twoAt plan 0) outcome
+    unfolding judgeIn planJudged
     named-slot =
         of-either Named (sheetTest s) _ (λ named. absurd (accepted-named (sheetTest s) ok named))
-        (of-either Named _ _ (given-traced (probeCount s) (parentOf s) (table s) (heldFirst s) plan 11 0 (ltb (length plan) 2) (inl (omega arith)))
-        (plan-traced (probeCount s) (parentOf s) (table s) (heldFirst s) plan))
+        (of-either Named _ _ (given-traced mode (probeCount s) (parentOf s) (table s) (heldIn mode s) plan 11 0 (ltb (length plan) 2) (inl (omega arith)))
+        (plan-traced mode (probeCount s) (parentOf s) (table s) (heldIn mode s) plan))
       where
         Named : Outcome → Type 0
-        Named = Traced (probeCount s) (parentOf s) (table s) (heldFirst s) plan
+        Named = Traced mode (probeCount s) (parentOf s) (table s) (heldIn mode s) plan
 
     -- the names are those of the slot that the judge has come to
-    pub accepted-names : judgement s plan .names ≡ planNames s plan (outcome .number)
-    unfolding judgement
-    accepted-names = ap (λ (b : Bool). cond b (planNames s plan (outcome .number)) nobody) ok
+    pub accepted-names : judgementIn mode s plan .names ≡ planNames mode s plan (outcome .number)
+    unfolding judgementIn
+    accepted-names = ap (λ (b : Bool). cond b (planNames mode s plan (outcome .number)) nobody) ok
 
-    pub else-nobody : (outcome .number < 12) ⊎ (15 < outcome .number) → judgement s plan .names ≡ nobody
+    pub else-nobody : (outcome .number < 12) ⊎ (15 < outcome .number) → judgementIn mode s plan .names ≡ nobody
     unfolding planNames planNamesBy
     else-nobody out = accepted-names ∙ names-else (probeCount s) (table s) _ _ (outcome .number) out
 
@@ -239,44 +240,46 @@ module _ (s plan : Bytes) where
       k = named-slot named .stop .passed
 
       abbrev now : Judging
-      now = judged (probeCount s) (parentOf s) (table s) (heldFirst s) plan k
+      now = judged mode (probeCount s) (parentOf s) (table s) (heldIn mode s) plan k
 
       abbrev slot : List Node
       slot = sendersAt plan (now .at)
 
-      is-found : TestsFound (probeCount s) (table s) (now .held) (k + 1) slot outcome
+      is-found : TestsFound (probeCount s) (table s) (mayOf mode s (now .held)) (k + 1) slot outcome
       is-found =
-          subst (TestsFound (probeCount s) (table s) (now .held) (k + 1) slot) (sym (named-slot named .tested))
-          (slot-found (probeCount s) (table s) (now .held) (k + 1) slot)
+          subst (TestsFound (probeCount s) (table s) (mayOf mode s (now .held)) (k + 1) slot) (sym (named-slot named .tested))
+          (slot-found (probeCount s) (table s) (mayOf mode s (now .held)) (k + 1) slot)
 
       at-place : outcome .place ≡ k + 1
       at-place = is-found .its-place (omega (arith, named .0))
 
-      is-standing : Stands (probeCount s) (parentOf s) (table s) (heldFirst s) plan k now
-      is-standing = stands (probeCount s) (parentOf s) (table s) (heldFirst s) plan k (named-slot named .stop .before)
+      is-standing : Stands mode (probeCount s) (parentOf s) (table s) (heldIn mode s) plan k now
+      is-standing = stands mode (probeCount s) (parentOf s) (table s) (heldIn mode s) plan k (named-slot named .stop .before)
 
-      its-held : now .held ≡ heldBefore s plan (outcome .place)
-      its-held = is-standing .holding ∙ ap (λ (n : ℕ). heldAfter (parentOf s) (heldFirst s) (slotsFrom plan 2 n)) (omega (arith, at-place))
+      its-held : mayOf mode s (now .held) ≡ mayBefore mode s plan (outcome .place)
+      its-held =
+          ap (mayOf mode s)
+          (is-standing .holding ∙ ap (λ (n : ℕ). heldAfter (goesOf mode s) (heldIn mode s) (slotsFrom plan 2 n)) (omega (arith, at-place)))
 
       its-slot : slot ≡ slotOfPlan plan (outcome .place)
       its-slot = ap (sendersAt plan) (is-standing .there) ∙ sym (slot-there plan k) ∙ ap (slotOfPlan plan) (sym at-place)
 
-      its-names : slotNames (probeCount s) (table s) (now .held) slot (outcome .number) ≡ judgement s plan .names
+      its-names : slotNames (probeCount s) (table s) (mayOf mode s (now .held)) slot (outcome .number) ≡ judgementIn mode s plan .names
       unfolding planNames planNamesBy
       its-names =
           sym
           (accepted-names
-          ∙ ap (λ (end : Judging). slotNames (probeCount s) (table s) (end .held) (sendersAt plan (end .at)) (outcome .number))
+          ∙ ap (λ (end : Judging). slotNames (probeCount s) (table s) (mayOf mode s (end .held)) (sendersAt plan (end .at)) (outcome .number))
           (named-slot named .stop .ends))
 
-      rightly : Blames (probeCount s) (clash s) (heldBefore s plan (outcome .place)) (slotOfPlan plan (outcome .place)) (outcome .number) (judgement s plan .names)
+      rightly : Blames (probeCount s) (clash s) (mayBefore mode s plan (outcome .place)) (slotOfPlan plan (outcome .place)) (outcome .number) (judgementIn mode s plan .names)
       rightly =
           rw (← its-held, ← its-slot, ← its-names)
-          (same-blames (probeCount s) (table s) (clash s) (now .held) slot (outcome .number) _ (table-clash s ok)
-          (number-blames (probeCount s) (table s) (now .held) (k + 1) slot outcome is-found))
+          (same-blames (probeCount s) (table s) (clash s) (mayOf mode s (now .held)) slot (outcome .number) _ (table-clash s ok)
+          (number-blames (probeCount s) (table s) (mayOf mode s (now .held)) (k + 1) slot outcome is-found))
 
     -- the judge names whom its number blames in the slot at its place
-    pub names-rightly : NamesRightly s plan (outcome .number) (outcome .place) (judgement s plan .names)
+    pub names-rightly : NamesRightlyIn mode s plan (outcome .number) (outcome .place) (judgementIn mode s plan .names)
     names-rightly =
         record {
           a-slot =

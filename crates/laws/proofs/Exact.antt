@@ -7,28 +7,25 @@ use mathlib.Core.Logic.{⊎-elim}
 use Prim.Native.Nat.{ℕ, zero, suc, _+_, _-_, _*_, _/_, _%_, _≤_, _<_}
 use native.Mathlib.Nat.{not-suc-le-zero, le-of-suc-le-suc, add-zero, zero-add}
 use native.Mathlib.Numerals.{add-one}
-use native.Mathlib.Decide.{decLt}
 use native.Mathlib.Omega.{arith}
 use lib.Dec.{ltb}
-use lib.ListN.{length, getD, take, drop, length-append, length-drop, List·getD-eq-default}
+use lib.ListN.{length, getD, take, drop, length-append, length-drop}
 use lib.Seq.{take-suc, take-add, take-all, take-at, drop-at, drop-drop, getD-drop, length-take-le}
 use borrow.Author.Tests.{ltb-true, ltb-false, lt-ltb, le-ltb, lt-leb}
+use Rattle.meaning.specs.declared.Mode.{Mode}
 use Rattle.meaning.specs.declared.Outcome.{Outcome}
 use Rattle.meaning.specs.Words.{forEach}
 use Rattle.meaning.specs.Sheet.{twoAt, probeCount, pairCount, pairRecords, parentOf, interfere}
 use Rattle.meaning.specs.Conflict.{entry, conflictTable}
-use Rattle.meaning.specs.Plan.{twoBytes, slotBytes, planBytes, nextAt, sendersAt}
+use Rattle.meaning.specs.Plan.{twoBytes, slotBytes, nextAt, sendersAt}
 use Rattle.meaning.specs.Rounds.{holds, outside, moved, heldAfter}
 use Rattle.meaning.specs.Answer.{accepted, isAccepted, given, _then_, sheetTest}
-use Rattle.meaning.specs.Judge.{Judging, slotTest, slotJudged, slotsJudged, planJudgedBy, planJudged, judge}
-use Rattle.meaning.specs.Legal.{clash, Legal, Runs, heldFirst, Arrived, Good}
+use Rattle.meaning.specs.Judge.{Judging, slotTest, slotJudged, slotsJudged, planJudgedBy, planJudged, judgeIn}
+use Rattle.meaning.specs.Legal.{clash, Legal, mayOf, goesOf, heldIn, RunsIn, Arrived, GoodIn}
 use Rattle.laws.proofs.Turns.{below-or-last, forEach-one, some-none, none-some}
 use Rattle.laws.proofs.Walk.{not-both, probe-yes, probe-least, probe-most}
-use Rattle.laws.proofs.Moving.{Each}
-use Rattle.laws.proofs.Slots.{each-append}
 use Rattle.laws.proofs.Conflicting.{entry-conflict, interfere-sym}
 use Rattle.laws.proofs.Accepted.{then-goes, then-accepted, given-accepted, accepted-yard}
-use Rattle.laws.proofs.Running.{each-at, at-each, legal-few}
 use Rattle.laws.proofs.Passed.{told, Passes, turn}
 
 -- a test that gives no number leaves the answer to the next
@@ -103,10 +100,11 @@ unfolding heldAfter
 held-append parent held [] ys = refl
 held-append parent held (x ∷ xs) ys = held-append parent (moved parent x held) xs ys
 
-pub runs-append : (s held : List ℕ) (xs ys : List (List ℕ)) → Runs s held xs → Runs s (heldAfter (parentOf s) held xs) ys → Runs s held (xs ++ ys)
-unfolding heldAfter Runs
-runs-append s held [] ys before behind = behind
-runs-append s held (x ∷ xs) ys before behind = (before .0, runs-append s (moved (parentOf s) x held) xs ys (before .1) behind)
+pub runs-append : (mode : Mode) (s held : List ℕ) (xs ys : List (List ℕ)) → RunsIn mode s held xs → RunsIn mode s (heldAfter (goesOf mode s) held xs) ys
+    → RunsIn mode s held (xs ++ ys)
+unfolding heldAfter RunsIn
+runs-append mode s held [] ys before behind = behind
+runs-append mode s held (x ∷ xs) ys before behind = (before .0, runs-append mode s (moved (goesOf mode s) x held) xs ys (before .1) behind)
 
 -- the bytes up to the next slot are those up to this one and this one's
 next-bytes : (plan : List ℕ) (at : ℕ) → nextAt plan at ≤ length plan → take (nextAt plan at) plan ≡ take at plan ++ slotBytes (sendersAt plan at ∷ [])
@@ -123,50 +121,50 @@ next-bytes plan at h =
     long : length slot ≡ getD plan at 0
     long = length-take-le (getD plan at 0) (drop (at + 1) plan) (rw (length-drop (at + 1) plan) (omega arith))
 
-module _ (s : List ℕ) (ok : isAccepted (sheetTest s) ≡ true) (plan : List ℕ) where
+module _ (mode : Mode) (s : List ℕ) (ok : isAccepted (sheetTest s) ≡ true) (plan : List ℕ) where
   abbrev step : ℕ → Judging → Judging
-  step place now = slotJudged (probeCount s) (parentOf s) (entry (conflictTable s)) plan place now
+  step place now = slotJudged mode (probeCount s) (parentOf s) (entry (conflictTable s)) plan place now
 
   abbrev Step : ℕ → Judging → Type 0
-  Step place now = Passes (probeCount s) (parentOf s) (entry (conflictTable s)) plan place now
+  Step place now = Passes mode (probeCount s) (parentOf s) (entry (conflictTable s)) plan place now
 
   slot-passed : (place : ℕ) (now : Judging) → isAccepted (step place now .outcome) ≡ true → Step place now
   slot-passed place now h =
       ⊎-elim (λ pass. pass) (λ refuses. not-both h (refuses .refused))
-      (turn (probeCount s) (parentOf s) (entry (conflictTable s)) plan place now)
+      (turn mode (probeCount s) (parentOf s) (entry (conflictTable s)) plan place now)
 
   -- and a legal slot is passed
-  slot-judged : (place at : ℕ) (held : List ℕ) → nextAt plan at ≤ length plan → Legal s held (sendersAt plan at)
+  slot-judged : (place at : ℕ) (held : List ℕ) → nextAt plan at ≤ length plan → Legal s (mayOf mode s held) (sendersAt plan at)
       → step place (record { outcome = accepted; at = at; held = held })
-      ≡ record { outcome = accepted; at = nextAt plan at; held = moved (parentOf s) (sendersAt plan at) held }
+      ≡ record { outcome = accepted; at = nextAt plan at; held = moved (goesOf mode s) (sendersAt plan at) held }
   unfolding slotJudged
   slot-judged place at held within legal =
       ap
       (λ (o : Outcome).
       cond (isAccepted o)
-      (record { outcome = o; at = nextAt plan at; held = moved (parentOf s) (sendersAt plan at) held })
+      (record { outcome = o; at = nextAt plan at; held = moved (goesOf mode s) (sendersAt plan at) held })
       (record { outcome = o; at = at; held = held }))
-      (passes 11 place _ _ (le-ltb (length plan) (nextAt plan at) within) ∙ legal-passed s ok held place (sendersAt plan at) legal)
+      (passes 11 place _ _ (le-ltb (length plan) (nextAt plan at) within) ∙ legal-passed s ok (mayOf mode s held) place (sendersAt plan at) legal)
 
   abbrev start : Judging
-  start = record { outcome = accepted; at = 2; held = heldFirst s }
+  start = record { outcome = accepted; at = 2; held = heldIn mode s }
 
   -- the judge as far as slot n
   abbrev judged : ℕ → Judging
-  judged n = slotsJudged (probeCount s) (parentOf s) (entry (conflictTable s)) plan n start
+  judged n = slotsJudged mode (probeCount s) (parentOf s) (entry (conflictTable s)) plan n start
 
   -- the judge has read these slots
   record Read (n : ℕ) (now : Judging) (slots : List (List ℕ)) : Type 0 where
     many : length slots ≡ n
     within : now .at ≤ length plan
     bytes : take (now .at) plan ≡ take 2 plan ++ slotBytes slots
-    runs : Runs s (heldFirst s) slots
-    holding : heldAfter (parentOf s) (heldFirst s) slots ≡ now .held
+    runs : RunsIn mode s (heldIn mode s) slots
+    holding : heldAfter (goesOf mode s) (heldIn mode s) slots ≡ now .held
 
   -- one slot more
   read-next : (n : ℕ) (now : Judging) (slots : List (List ℕ)) → Read n now slots → Step (n + 1) now
       → Read (suc n) (step (n + 1) now) (slots ++ (sendersAt plan (now .at) ∷ []))
-  unfolding Runs heldAfter
+  unfolding RunsIn heldAfter
   read-next n now slots read pass =
       record {
         many = length-append slots (slot ∷ []) ∙ omega (arith, read .many);
@@ -178,11 +176,11 @@ module _ (s : List ℕ) (ok : isAccepted (sheetTest s) ≡ true) (plan : List �
             ∙ append-assoc (take 2 plan) (slotBytes slots) (slotBytes (slot ∷ []))
             ∙ ap (λ (l : List ℕ). take 2 plan ++ l) (sym (slot-bytes-append slots (slot ∷ [])));
         runs =
-            runs-append s (heldFirst s) slots (slot ∷ []) (read .runs)
-            (subst (λ (held : List ℕ). Legal s held slot) (sym (read .holding)) (passed-legal s ok (now .held) (n + 1) slot (pass .tested)), tt);
+            runs-append mode s (heldIn mode s) slots (slot ∷ []) (read .runs)
+            (subst (λ (held : List ℕ). Legal s (mayOf mode s held) slot) (sym (read .holding)) (passed-legal s ok (mayOf mode s (now .held)) (n + 1) slot (pass .tested)), tt);
         holding =
-            held-append (parentOf s) (heldFirst s) slots (slot ∷ [])
-            ∙ ap (λ (held : List ℕ). moved (parentOf s) slot held) (read .holding)
+            held-append (goesOf mode s) (heldIn mode s) slots (slot ∷ [])
+            ∙ ap (λ (held : List ℕ). moved (goesOf mode s) slot held) (read .holding)
             ∙ sym (pass .moves);
       }
     where
@@ -190,7 +188,7 @@ module _ (s : List ℕ) (ok : isAccepted (sheetTest s) ≡ true) (plan : List �
       slot = sendersAt plan (now .at)
 
   read-slots : (n : ℕ) → 2 ≤ length plan → isAccepted (judged n .outcome) ≡ true → (slots : List (List ℕ)) × Read n (judged n) slots
-  unfolding slotsJudged forEach Runs heldAfter slotBytes
+  unfolding slotsJudged forEach RunsIn heldAfter slotBytes
   read-slots zero long h = ([], record { many = refl; within = long; bytes = sym (append-nil (take 2 plan)); runs = tt; holding = refl })
   read-slots (suc n) long h = go (isAccepted (judged n .outcome)) refl h (read-slots n long)
     where
@@ -234,15 +232,15 @@ module _ (s : List ℕ) (ok : isAccepted (sheetTest s) ≡ true) (plan : List �
 
   -- slots that run are passed, one after the other
   run : (k at : ℕ) (held : List ℕ) (slots : List (List ℕ)) → judged k ≡ record { outcome = accepted; at = at; held = held }
-      → drop at plan ≡ slotBytes slots → Runs s held slots
-      → judged (k + length slots) ≡ record { outcome = accepted; at = at + length (slotBytes slots); held = heldAfter (parentOf s) held slots }
-  unfolding Runs heldAfter slotBytes
+      → drop at plan ≡ slotBytes slots → RunsIn mode s held slots
+      → judged (k + length slots) ≡ record { outcome = accepted; at = at + length (slotBytes slots); held = heldAfter (goesOf mode s) held slots }
+  unfolding RunsIn heldAfter slotBytes
   run k at held [] now bytes runs =
       ap judged (add-zero k) ∙ now ∙ ap (λ (a : ℕ). record { outcome = accepted; at = a; held = held }) (sym (add-zero at))
   run k at held (slot ∷ slots) now bytes runs =
       ap judged more
-      ∙ run (k + 1) (nextAt plan at) (moved (parentOf s) slot held) slots next (read-behind at slot (slotBytes slots) bytes) (runs .1)
-      ∙ ap (λ (a : ℕ). record { outcome = accepted; at = a; held = heldAfter (parentOf s) (moved (parentOf s) slot held) slots }) behind
+      ∙ run (k + 1) (nextAt plan at) (moved (goesOf mode s) slot held) slots next (read-behind at slot (slotBytes slots) bytes) (runs .1)
+      ∙ ap (λ (a : ℕ). record { outcome = accepted; at = a; held = heldAfter (goesOf mode s) (moved (goesOf mode s) slot held) slots }) behind
     where
       more : k + length (slot ∷ slots) ≡ k + 1 + length slots
       more = omega arith
@@ -250,11 +248,11 @@ module _ (s : List ℕ) (ok : isAccepted (sheetTest s) ≡ true) (plan : List �
       here : sendersAt plan at ≡ slot
       here = read-senders at slot (slotBytes slots) bytes
 
-      next : judged (k + 1) ≡ record { outcome = accepted; at = nextAt plan at; held = moved (parentOf s) slot held }
+      next : judged (k + 1) ≡ record { outcome = accepted; at = nextAt plan at; held = moved (goesOf mode s) slot held }
       next =
           judged-next k at held now
-          ∙ slot-judged (k + 1) at held (read-within at slot (slotBytes slots) bytes) (subst (λ (l : List ℕ). Legal s held l) (sym here) (runs .0))
-          ∙ ap (λ (l : List ℕ). record { outcome = accepted; at = nextAt plan at; held = moved (parentOf s) l held }) here
+          ∙ slot-judged (k + 1) at held (read-within at slot (slotBytes slots) bytes) (subst (λ (l : List ℕ). Legal s (mayOf mode s held) l) (sym here) (runs .0))
+          ∙ ap (λ (l : List ℕ). record { outcome = accepted; at = nextAt plan at; held = moved (goesOf mode s) l held }) here
 
       behind : nextAt plan at + length (slotBytes slots) ≡ at + length ((length slot ∷ slot) ++ slotBytes slots)
       behind = omega (arith, length-append slot (slotBytes slots), read-here at slot (slotBytes slots) bytes)
@@ -286,33 +284,33 @@ outside-none s held arrived =
     (λ k l. le-ltb 0 (getD held (k + 2) 0) (omega (arith, arrived (k + 2) (probe-yes (probeCount s) (k + 2) (omega arith) (omega arith)))))
 
 -- a plan that the judge passes is good; its first two elements, which say how many slots there are, are bytes
-pub passed-good : (s plan : List ℕ) → getD plan 0 0 < 256 → getD plan 1 0 < 256 → isAccepted (judge s plan .outcome) ≡ true → Good s plan
-unfolding judge planJudged planJudgedBy
-passed-good s plan high low h =
+pub passed-good : (mode : Mode) (s plan : List ℕ) → getD plan 0 0 < 256 → getD plan 1 0 < 256 → isAccepted (judgeIn mode s plan .outcome) ≡ true → GoodIn mode s plan
+unfolding judgeIn planJudged planJudgedBy
+passed-good mode s plan high low h =
     let sheet = then-accepted _ _ h in
     let two = then-accepted _ _ (sheet .1) in
     let slots = then-accepted _ _ (two .1) in
     let whole = then-accepted _ _ (slots .1) in
     let long : 2 ≤ length plan = ltb-false (length plan) 2 (given-accepted 11 0 _ refl (two .0)) in
-    let read = read-slots s (sheet .0) plan (twoAt plan 0) long (slots .0) in
-    let all = ltb-false (judged s (sheet .0) plan (twoAt plan 0) .at) (length plan) (given-accepted 16 (twoAt plan 0) _ refl (whole .0)) in
+    let read = read-slots mode s (sheet .0) plan (twoAt plan 0) long (slots .0) in
+    let all = ltb-false (judged mode s (sheet .0) plan (twoAt plan 0) .at) (length plan) (given-accepted 16 (twoAt plan 0) _ refl (whole .0)) in
     record {
       sheet = sheet .0;
       slots = read .0;
       few = omega (arith, read .1 .many, high, low);
       written =
-          sym (take-all (judged s (sheet .0) plan (twoAt plan 0) .at) plan all)
+          sym (take-all (judged mode s (sheet .0) plan (twoAt plan 0) .at) plan all)
           ∙ read .1 .bytes
           ∙ ap (λ (l : List ℕ). l ++ slotBytes (read .0)) (two-of plan long high low)
           ∙ ap (λ (n : ℕ). twoBytes n ++ slotBytes (read .0)) (sym (read .1 .many));
       runs = read .1 .runs;
       arrived =
           subst (λ (held : List ℕ). Arrived s held) (sym (read .1 .holding))
-          (none-outside s (judged s (sheet .0) plan (twoAt plan 0) .held) (given-accepted 17 (twoAt plan 0) _ refl (whole .1)));
+          (none-outside s (judged mode s (sheet .0) plan (twoAt plan 0) .held) (given-accepted 17 (twoAt plan 0) _ refl (whole .1)));
     }
 
 -- the judge passes a good plan, and counts its slots
-module _ (s plan : List ℕ) (good : Good s plan) where
+module _ (mode : Mode) (s plan : List ℕ) (good : GoodIn mode s plan) where
   counted : twoAt plan 0 ≡ length (good .slots)
   counted = ap (λ (l : List ℕ). twoAt l 0) (good .written) ∙ (omega arith)
 
@@ -321,15 +319,15 @@ module _ (s plan : List ℕ) (good : Good s plan) where
 
   -- where the judge stands after the last slot
   last : Judging
-  last = record { outcome = accepted; at = 2 + length (slotBytes (good .slots)); held = heldAfter (parentOf s) (heldFirst s) (good .slots) }
+  last = record { outcome = accepted; at = 2 + length (slotBytes (good .slots)); held = heldAfter (goesOf mode s) (heldIn mode s) (good .slots) }
 
-  to-the-last : judged s (good .sheet) plan (twoAt plan 0) ≡ last
+  to-the-last : judged mode s (good .sheet) plan (twoAt plan 0) ≡ last
   unfolding last slotsJudged forEach
   to-the-last =
-      ap (judged s (good .sheet) plan) (counted ∙ sym (zero-add (length (good .slots))))
-      ∙ run s (good .sheet) plan 0 2 (heldFirst s) (good .slots) refl (ap (drop 2) (good .written)) (good .runs)
+      ap (judged mode s (good .sheet) plan) (counted ∙ sym (zero-add (length (good .slots))))
+      ∙ run mode s (good .sheet) plan 0 2 (heldIn mode s) (good .slots) refl (ap (drop 2) (good .written)) (good .runs)
 
-  plan-passed : planJudged s plan ≡ accepted
+  plan-passed : planJudged mode s plan ≡ accepted
   unfolding planJudged planJudgedBy last
   plan-passed =
       ap
@@ -340,37 +338,13 @@ module _ (s plan : List ℕ) (good : Good s plan) where
       to-the-last
       ∙ then-goes accepted _ refl
       ∙ passes 16 (twoAt plan 0) _ _ (le-ltb (2 + length (slotBytes (good .slots))) (length plan) (omega (arith, long-plan)))
-      ∙ gives-none 17 (twoAt plan 0) _ (outside-none s (heldAfter (parentOf s) (heldFirst s) (good .slots)) (good .arrived))
+      ∙ gives-none 17 (twoAt plan 0) _ (outside-none s (heldAfter (goesOf mode s) (heldIn mode s) (good .slots)) (good .arrived))
 
-  pub good-passed : judge s plan ≡ record { outcome = accepted; slots = length (good .slots) }
-  unfolding judge
+  pub good-passed : judgeIn mode s plan ≡ record { outcome = accepted; slots = length (good .slots) }
+  unfolding judgeIn
   good-passed =
       ap (λ (o : Outcome). record { outcome = o; slots = cond (isAccepted o) (twoAt plan 0) 0 })
       (then-goes (sheetTest s) _ (good .sheet)
       ∙ passes 11 0 _ _ (le-ltb (length plan) 2 (omega (arith, long-plan)))
       ∙ plan-passed)
       ∙ ap (λ (n : ℕ). record { outcome = accepted; slots = n }) counted
-
--- a good plan's elements are bytes: a slot has at most 63 senders, and none is above 64
-slots-bytes : (s : List ℕ) → isAccepted (sheetTest s) ≡ true → (held : List ℕ) (slots : List (List ℕ)) → Runs s held slots
-    → Each (λ b. b < 256) (slotBytes slots)
-unfolding Runs slotBytes Each
-slots-bytes s ok held [] runs = tt
-slots-bytes s ok held (slot ∷ slots) runs = (
-  omega (arith, legal-few s ok held slot (runs .0), accepted-yard s ok .few),
-  each-append (λ b. b < 256) slot (slotBytes slots)
-      (at-each (λ b. b < 256) slot
-      (λ i h. omega (arith, probe-most (probeCount s) (getD slot i 0) (runs .0 .probes i h), accepted-yard s ok .few)))
-      (slots-bytes s ok (moved (parentOf s) slot held) slots (runs .1)),
-)
-
-pub good-bytes : (s plan : List ℕ) → Good s plan → (k : ℕ) → getD plan k 0 < 256
-unfolding Each
-good-bytes s plan good k = go (decLt k (length plan))
-  where
-    all : Each (λ b. b < 256) (planBytes (good .slots))
-    all = (omega (arith, good .few), (omega arith, slots-bytes s (good .sheet) (heldFirst s) (good .slots) (good .runs)))
-
-    go : Dec (k < length plan) → getD plan k 0 < 256
-    go (yes l) = each-at (λ b. b < 256) plan (subst (λ (l : List ℕ). Each (λ b. b < 256) l) (sym (good .written)) all) k l
-    go (no l) = omega (arith, List·getD-eq-default plan 0 {n = k} (omega arith))

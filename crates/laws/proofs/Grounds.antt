@@ -57,7 +57,7 @@ module _ (s : List ℕ) (ok : isAccepted (sheetTest s) ≡ true) where
   unfolding levelOf
   probe-level v h = ap (λ (b : Bool). cond b (climb (parentOf s) (probeCount s) v) 0) h
 
-  other-level : (v : ℕ) → isProbe (probeCount s) v ≡ false → levelOf s v ≡ 0
+  pub other-level : (v : ℕ) → isProbe (probeCount s) v ≡ false → levelOf s v ≡ 0
   unfolding levelOf
   other-level v h = ap (λ (b : Bool). cond b (climb (parentOf s) (probeCount s) v) 0) h
 
@@ -85,12 +85,8 @@ module _ (s : List ℕ) (ok : isAccepted (sheetTest s) ≡ true) where
       (λ (e : isProbe (probeCount s) v ≡ false). omega (arith, other-level v e))
       (true-or-false (isProbe (probeCount s) v))
 
-  -- the hops that are left to make
-  abbrev pub hopsLeft : List ℕ → ℕ
-  hopsLeft held = weigh (levelOf s) held
-
-  -- at first they are the sheet's
-  pub first-left : hopsLeft (heldFirst s) ≡ hops s
+  -- what is held at first, weighed by level, is the hops of the sheet
+  pub first-left : weigh (levelOf s) (heldFirst s) ≡ hops s
   unfolding hops
   first-left =
       sum-same places (λ k. getD (heldFirst s) k 0 * levelOf s k) (λ k. packetsOf s k * levelOf s k)

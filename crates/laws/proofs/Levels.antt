@@ -11,13 +11,13 @@ use native.Mathlib.Omega.{arith}
 use borrow.Author.Tests.{not-true, eqb-true, eqb-false}
 use lib.Dec.{eqb}
 use lib.ListN.{getD}
-use Rattle.meaning.specs.Words.{most, places}
+use Rattle.meaning.specs.Words.{most, mostProbes, places}
 use Rattle.meaning.specs.Sheet.{probeCount, pairCount, pairRecords, parentOf, levelOf, interfere}
 use Rattle.meaning.specs.Conflict.{entry, tableOf, conflictTable}
 use Rattle.meaning.specs.Colour.{probeColours, levelColours, levelsConflict, levels, depth}
 use Rattle.meaning.specs.Answer.{isAccepted, sheetTest}
 use Rattle.meaning.specs.Legal.{clash}
-use Rattle.laws.proofs.Turns.{below-or-last, some-found, some-where, getD-tab}
+use Rattle.laws.proofs.Turns.{below-or-last, some-found, some-where, most-same, getD-tab}
 use Rattle.laws.proofs.Walk.{probe-yes}
 use Rattle.laws.proofs.Slots.{and-left, and-right, true-or-false}
 use Rattle.laws.proofs.Colouring.{Conflicts, Proper, proper}
@@ -110,13 +110,18 @@ module _ (s : List ℕ) (ok : isAccepted (sheetTest s) ≡ true) where
   abbrev level : ℕ → ℕ
   level v = getD (levels s) v 0
 
-  level-read : (k : ℕ) → k < p → level (k + 2) ≡ levelOf s (k + 2)
+  pub level-read : (k : ℕ) → k < p → level (k + 2) ≡ levelOf s (k + 2)
   unfolding levels
   level-read k h = getD-tab places (levelOf s) (k + 2) 0 (omega (arith, few))
 
   pub level-deep : (k : ℕ) → k < p → levelOf s (k + 2) ≤ depth s
   unfolding depth
   level-deep k h = most-holds p (λ j. levelOf s (j + 2)) k h
+
+  -- the depth, read in the list of the levels
+  pub depth-read : mostProbes p level ≡ depth s
+  unfolding depth
+  depth-read = most-same p (λ k. level (k + 2)) (λ k. levelOf s (k + 2)) level-read
 
   pub depth-most : depth s ≤ p
   unfolding depth

@@ -11,6 +11,7 @@ pub mod Colouring
 pub mod Conflicting
 pub mod Accepted
 pub mod Grounds
+pub mod Modes
 pub mod Running
 pub mod Passed
 pub mod Exact
@@ -20,5 +21,8 @@ pub mod Joining
 pub mod Levels
 pub mod Recorded
 pub mod Own
+pub mod MergedHeld
+pub mod MergedExact
+pub mod MergedDepth
 pub mod PlanMade
 pub mod Used

@@ -1,6 +1,6 @@
--- Our own plans pass. Each slot that a turn makes is legal; while a packet is outside, a round makes a slot, so that the hops are rounds enough;
--- and each slot takes a hop at least, so that the slots are no more than the hops. Then the judge, being exact, passes the plan. This goes for any way
--- whose owners have the three facts of `Fair`, and then for the two ways.
+-- Our own plans pass. Each slot that a turn makes is legal; while anything is outside some probe may send and a round makes a slot, so that the sendings are rounds enough;
+-- and each slot makes a sending at least, so that the slots are no more than the sendings. Then the judge, being exact, passes the plan. This goes for any way
+-- whose owners have the three facts of `Fair`, for packets and merged readings alike, and then for the three ways.
 use mathlib.Core.Path.{_≡_, refl, sym, ap, ap₂, _∙_, subst}
 use mathlib.Core.Bool.{Bool, true, false, cond, _&&_}
 use mathlib.Core.List.{List, [], _∷_}
@@ -11,16 +11,19 @@ use native.Mathlib.Omega.{arith}
 use borrow.Author.Tests.{ltb-true, eqb-true, eq-eqb}
 use lib.Dec.{eqb}
 use lib.ListN.{length, getD, replicate, length-append, List·getD-eq-default}
+use Rattle.meaning.specs.declared.Mode.{Mode}
+use Rattle.meaning.specs.declared.Mode.the-variants.{Packets, Merged}
 use Rattle.meaning.specs.Words.{forEach, someProbe, tab, places}
 use Rattle.meaning.specs.Yard.{isProbe}
-use Rattle.meaning.specs.Sheet.{probeCount, parentOf, packetsOf, levelOf, hops}
+use Rattle.meaning.specs.Sheet.{probeCount, levelOf}
 use Rattle.meaning.specs.Conflict.{entry, conflictTable}
 use Rattle.meaning.specs.Colour.{coloursUsed, probeColours, levelColours, depth}
 use Rattle.meaning.specs.Plan.{slotBytes, planBytes, roomFor}
-use Rattle.meaning.specs.Rounds.{holds, outside, joined, ownersByProbe, ownersByLevel, slotOf, turnOf, moved, heldAfter, Progress, recorded, Way, turn, round, rounds, before, byProbe, byLevel, slotsOf}
+use Rattle.meaning.specs.Rounds.{holds, outside, firstIn, sendingsIn, joined, ownersByProbe, ownersByLevel, slotOf, turnOf, moved, heldAfter}
+use Rattle.meaning.specs.Rounds.{Progress, recorded, Way, turn, round, rounds, before, byProbeIn, byProbe, merged, byLevel, slotsIn}
 use Rattle.meaning.specs.Answer.{accepted, isAccepted, sheetTest}
-use Rattle.meaning.specs.Judge.{judge}
-use Rattle.meaning.specs.Legal.{Legal, Runs, heldFirst, Arrived, Good}
+use Rattle.meaning.specs.Judge.{judgeIn}
+use Rattle.meaning.specs.Legal.{Legal, mayOf, goesOf, heldIn, RunsIn, Arrived, GoodIn}
 use Rattle.laws.proofs.Turns.{below-or-last, forEach-keeps, some-found, some-where, length-tab, getD-tab}
 use Rattle.laws.proofs.Walk.{not-both, probe-yes, probe-least, probe-most}
 use Rattle.laws.proofs.Moving.{Each, length-moved}
@@ -28,9 +31,10 @@ use Rattle.laws.proofs.Slots.{Only, and-left, and-right, never, true-or
 use Rattle.laws.proofs.Accepted.{accepted-yard}
 use Rattle.laws.proofs.Exact.{table-clash, slot-bytes-append, held-append, runs-append, none-outside, good-passed}
 use Rattle.laws.proofs.Joining.{Chosen, Free, nobody-chosen, free-joined, one-joined, each-chosen, owned-slot}
-use Rattle.laws.proofs.Grounds.{level-least, hopsLeft, first-left, hops-most}
+use Rattle.laws.proofs.Grounds.{level-least}
+use Rattle.laws.proofs.Modes.{sendings-left, sendings-most, some-may}
 use Rattle.laws.proofs.Recorded.{recorded-none}
-use Rattle.laws.proofs.Running.{each-at, rising-at, none-left, legal-left}
+use Rattle.laws.proofs.Running.{each-at, rising-at, left, none-left, legal-left}
 use Rattle.laws.proofs.Levels.{most-holds, table-conflicts, probes-proper, level-deep, depth-most, levels-proper}
 
 -- what the owners of a colour's slot have to be: each may send, no two conflict; and whoever may send, some colour has an owner
@@ -41,23 +45,27 @@ pub record Fair (s : List ℕ) (owners : ℕ → (ℕ → Bool) → List Bool) (
       → (c : ℕ) × (c < colours) × (someProbe (probeCount s) (λ u. getD (owners (c + 1) may) u false) ≡ true)
 
 -- a way over the sheet's own probes, parents and conflicts
-abbrev pub wayOver : List ℕ → (ℕ → (ℕ → Bool) → List Bool) → ℕ → Way
-wayOver s owners colours =
-    record { probes = probeCount s; parent = parentOf s; relation = entry (conflictTable s); may = holds; owners = owners; colours = colours }
+abbrev pub wayOver : Mode → List ℕ → (ℕ → (ℕ → Bool) → List Bool) → ℕ → Way
+wayOver mode s owners colours =
+    record { probes = probeCount s; parent = goesOf mode s; relation = entry (conflictTable s); may = mayOf mode s; owners = owners; colours = colours }
 
--- what is true of a plan of our own: it is good, the judge passes it and counts its slots, and they and their bytes are no more than the hops allow
-pub record OwnPlan (s : List ℕ) (way : Way) : Type 0 where
-  pub good : Good s (planBytes (slotsOf s way))
-  pub passed : judge s (planBytes (slotsOf s way)) ≡ record { outcome = accepted; slots = length (slotsOf s way) }
-  pub few : length (slotsOf s way) ≤ hops s
-  pub room : length (planBytes (slotsOf s way)) ≤ roomFor (hops s)
+-- what is true of a plan of our own: it is good, the judge passes it and counts its slots, and they and their bytes are no more than the sendings allow
+pub record OwnPlan (mode : Mode) (s : List ℕ) (way : Way) : Type 0 where
+  pub good : GoodIn mode s (planBytes (slotsIn mode s way))
+  pub passed : judgeIn mode s (planBytes (slotsIn mode s way)) ≡ record { outcome = accepted; slots = length (slotsIn mode s way) }
+  pub few : length (slotsIn mode s way) ≤ sendingsIn mode s
+  pub room : length (planBytes (slotsIn mode s way)) ≤ roomFor (sendingsIn mode s)
 
-module _ (s : List ℕ) (ok : isAccepted (sheetTest s) ≡ true) (owners : ℕ → (ℕ → Bool) → List Bool) (colours : ℕ) (fair : Fair s owners colours) where
+module _ (mode : Mode) (s : List ℕ) (ok : isAccepted (sheetTest s) ≡ true) (owners : ℕ → (ℕ → Bool) → List Bool) (colours : ℕ) (fair : Fair s owners colours) where
   abbrev way : Way
-  way = wayOver s owners colours
+  way = wayOver mode s owners colours
 
-  abbrev left : List ℕ → ℕ
-  left held = hopsLeft s ok held
+  abbrev unsent : List ℕ → ℕ
+  unsent held = left mode s ok held
+
+  -- who may send
+  abbrev mays : List ℕ → ℕ → Bool
+  mays held = holds (mayOf mode s held)
 
   few : probeCount s ≤ 63
   few = accepted-yard s ok .few
@@ -68,76 +76,76 @@ module _ (s : List ℕ) (ok : isAccepted (sheetTest s) ≡ true) (owners : ℕ �
 
   -- who owns the slot of a colour, whether there is any, and the slot
   abbrev owning : ℕ → List ℕ → List Bool
-  owning c held = owners c (holds held)
+  owning c held = owners c (mays held)
 
   abbrev owned : ℕ → List ℕ → Bool
   owned c held = someProbe (probeCount s) (λ u. getD (owning c held) u false)
 
   abbrev slotFor : ℕ → List ℕ → List ℕ
-  slotFor c held = slotOf (probeCount s) (entry (conflictTable s)) (holds held) (owning c held)
+  slotFor c held = slotOf (probeCount s) (entry (conflictTable s)) (mays held) (owning c held)
 
   -- the slot of a colour is legal
-  slot-legal : (c : ℕ) (held : List ℕ) → Legal s held (slotFor c held)
+  slot-legal : (c : ℕ) (held : List ℕ) → Legal s (mayOf mode s held) (slotFor c held)
   slot-legal c held =
       record {
         probes =
             λ i h.
             let at = each-at _ slot each i h in
             probe-yes (probeCount s) (getD slot i 0) (at .1) (omega (arith, at .2));
-        rising = rising-at 1 slot (rising-slot (probeCount s) (entry (conflictTable s)) (holds held) (owners c (holds held)));
-        holding = λ i h. ltb-true 0 (getD held (getD slot i 0) 0) (each-at _ slot each i h .0);
+        rising = rising-at 1 slot (rising-slot (probeCount s) (entry (conflictTable s)) (mays held) (owners c (mays held)));
+        holding = λ i h. ltb-true 0 (getD (mayOf mode s held) (getD slot i 0) 0) (each-at _ slot each i h .0);
         apart =
             λ i j h l.
             sym (table-clash s ok (getD slot i 0) (getD slot j 0))
-            ∙ free-joined (entry (conflictTable s)) (holds held) 2 (probeCount s) (table-conflicts s ok) (omega (arith, few)) (probeCount s)
-            (owners c (holds held)) (fair .free c (holds held)) (getD slot i 0) (getD slot j 0)
+            ∙ free-joined (entry (conflictTable s)) (mays held) 2 (probeCount s) (table-conflicts s ok) (omega (arith, few)) (probeCount s)
+            (owners c (mays held)) (fair .free c (mays held)) (getD slot i 0) (getD slot j 0)
             (each-at _ slot chosen i (omega arith)) (each-at _ slot chosen j l);
       }
     where
       slot : List ℕ
       slot = slotFor c held
 
-      each : Each (λ v. (holds held v ≡ true) × (2 ≤ v) × (v < probeCount s + 2)) slot
-      each = each-slot (probeCount s) (entry (conflictTable s)) (holds held) (owners c (holds held)) (fair .only c (holds held))
+      each : Each (λ v. (mays held v ≡ true) × (2 ≤ v) × (v < probeCount s + 2)) slot
+      each = each-slot (probeCount s) (entry (conflictTable s)) (mays held) (owners c (mays held)) (fair .only c (mays held))
 
-      chosen : Each (Chosen (joined (probeCount s) (entry (conflictTable s)) (holds held) (owners c (holds held)))) slot
-      chosen = each-chosen (entry (conflictTable s)) (holds held) (probeCount s) (owners c (holds held))
+      chosen : Each (Chosen (joined (probeCount s) (entry (conflictTable s)) (mays held) (owners c (mays held)))) slot
+      chosen = each-chosen (entry (conflictTable s)) (mays held) (probeCount s) (owners c (mays held))
 
-  -- how far a plan has come: its slots run, and each has taken a hop at least
+  -- how far a plan has come: its slots run, and each has made a sending at least
   record Going (now : Progress) : Type 0 where
     long : length (now .held) ≡ places
-    runs : Runs s (heldFirst s) (now .slots)
-    after : heldAfter (parentOf s) (heldFirst s) (now .slots) ≡ now .held
-    fewer : length (now .slots) + left (now .held) ≤ hops s
-    shorter : length (slotBytes (now .slots)) + 2 * left (now .held) ≤ 2 * hops s
+    runs : RunsIn mode s (heldIn mode s) (now .slots)
+    after : heldAfter (goesOf mode s) (heldIn mode s) (now .slots) ≡ now .held
+    fewer : length (now .slots) + unsent (now .held) ≤ sendingsIn mode s
+    shorter : length (slotBytes (now .slots)) + 2 * unsent (now .held) ≤ 2 * sendingsIn mode s
 
-  going-first : Going (before (packetsOf s))
-  unfolding Runs heldAfter slotBytes
+  going-first : Going (before (firstIn mode s))
+  unfolding RunsIn heldAfter slotBytes
   going-first =
       record {
-        long = length-tab places (packetsOf s);
+        long = length-tab places (firstIn mode s);
         runs = tt;
         after = refl;
-        fewer = omega (arith, first-left s ok);
-        shorter = omega (arith, first-left s ok);
+        fewer = omega (arith, sendings-left s ok mode);
+        shorter = omega (arith, sendings-left s ok mode);
       }
 
-  going-next : (slot : List ℕ) (now : Progress) → Going now → Legal s (now .held) slot → 1 ≤ length slot → Going (recorded (parentOf s) (slot ∷ []) now)
-  unfolding recorded Runs heldAfter
+  going-next : (slot : List ℕ) (now : Progress) → Going now → Legal s (mayOf mode s (now .held)) slot → 1 ≤ length slot → Going (recorded (goesOf mode s) (slot ∷ []) now)
+  unfolding recorded RunsIn heldAfter
   going-next slot now going legal sends =
       record {
-        long = length-moved (parentOf s) slot (now .held) ∙ going .long;
+        long = length-moved (goesOf mode s) slot (now .held) ∙ going .long;
         runs =
-            runs-append s (heldFirst s) (now .slots) (slot ∷ []) (going .runs)
-            (subst (λ (held : List ℕ). Legal s held slot) (sym (going .after)) legal, tt);
+            runs-append mode s (heldIn mode s) (now .slots) (slot ∷ []) (going .runs)
+            (subst (λ (held : List ℕ). Legal s (mayOf mode s held) slot) (sym (going .after)) legal, tt);
         after =
-            held-append (parentOf s) (heldFirst s) (now .slots) (slot ∷ []) ∙ ap (λ (held : List ℕ). moved (parentOf s) slot held) (going .after);
+            held-append (goesOf mode s) (heldIn mode s) (now .slots) (slot ∷ []) ∙ ap (λ (held : List ℕ). moved (goesOf mode s) slot held) (going .after);
         fewer =
             omega (
               arith,
               going .fewer,
               length-append (now .slots) (slot ∷ []),
-              legal-left s ok (now .held) slot legal (going .long),
+              legal-left mode s ok (now .held) slot legal (going .long),
             );
         shorter =
             omega (
@@ -145,26 +153,26 @@ module _ (s : List ℕ) (ok : isAccepted (sheetTest s) ≡ true) (owners : ℕ �
               going .shorter,
               ap length (slot-bytes-append (now .slots) (slot ∷ [])) ∙ length-append (slotBytes (now .slots)) (slotBytes (slot ∷ [])),
               one-slot slot,
-              legal-left s ok (now .held) slot legal (going .long),
+              legal-left mode s ok (now .held) slot legal (going .long),
             );
       }
 
   -- one turn of a round
   unfoldable next : ℕ → Progress → Progress
-  next k now = recorded (parentOf s) (turn way (k + 1) (now .held)) now
+  next k now = recorded (goesOf mode s) (turn way (k + 1) (now .held)) now
 
   -- with no owner nothing happens; with an owner the slot is recorded
   next-none : (k : ℕ) (now : Progress) → owned (k + 1) (now .held) ≡ false → next k now ≡ now
   unfolding next turnOf
   next-none k now e =
-      ap (λ (b : Bool). recorded (parentOf s) (cond b (slotFor (k + 1) (now .held) ∷ []) []) now) e ∙ recorded-none (parentOf s) now
+      ap (λ (b : Bool). recorded (goesOf mode s) (cond b (slotFor (k + 1) (now .held) ∷ []) []) now) e ∙ recorded-none (goesOf mode s) now
 
-  next-one : (k : ℕ) (now : Progress) → owned (k + 1) (now .held) ≡ true → next k now ≡ recorded (parentOf s) (slotFor (k + 1) (now .held) ∷ []) now
+  next-one : (k : ℕ) (now : Progress) → owned (k + 1) (now .held) ≡ true → next k now ≡ recorded (goesOf mode s) (slotFor (k + 1) (now .held) ∷ []) now
   unfolding next turnOf
-  next-one k now e = ap (λ (b : Bool). recorded (parentOf s) (cond b (slotFor (k + 1) (now .held) ∷ []) []) now) e
+  next-one k now e = ap (λ (b : Bool). recorded (goesOf mode s) (cond b (slotFor (k + 1) (now .held) ∷ []) []) now) e
 
   sends : (c : ℕ) (held : List ℕ) → owned c held ≡ true → 1 ≤ length (slotFor c held)
-  sends c held e = owned-slot (probeCount s) (entry (conflictTable s)) (holds held) (owning c held) e
+  sends c held e = owned-slot (probeCount s) (entry (conflictTable s)) (mays held) (owning c held) e
 
   going-turn : (k : ℕ) (now : Progress) → Going now → Going (next k now)
   going-turn k now going =
@@ -173,20 +181,20 @@ module _ (s : List ℕ) (ok : isAccepted (sheetTest s) ≡ true) (owners : ℕ �
       (λ e. subst Going (sym (next-none k now e)) going)
       (true-or-false (owned (k + 1) (now .held)))
 
-  -- a slot that is made takes hops away
-  left-one : (k : ℕ) (now : Progress) → Going now → owned (k + 1) (now .held) ≡ true → left (next k now .held) < left (now .held)
+  -- a slot that is made takes sendings away
+  left-one : (k : ℕ) (now : Progress) → Going now → owned (k + 1) (now .held) ≡ true → unsent (next k now .held) < unsent (now .held)
   unfolding recorded heldAfter
   left-one k now going e =
       omega (
         arith,
-        ap (λ (then : Progress). left (then .held)) (next-one k now e),
-        legal-left s ok (now .held) (slotFor (k + 1) (now .held)) (slot-legal (k + 1) (now .held)) (going .long),
+        ap (λ (then : Progress). unsent (then .held)) (next-one k now e),
+        legal-left mode s ok (now .held) (slotFor (k + 1) (now .held)) (slot-legal (k + 1) (now .held)) (going .long),
         sends (k + 1) (now .held) e,
       )
 
-  left-next : (k : ℕ) (now : Progress) → Going now → left (next k now .held) ≤ left (now .held)
+  left-next : (k : ℕ) (now : Progress) → Going now → unsent (next k now .held) ≤ unsent (now .held)
   left-next k now going =
-      ⊎-elim (λ e. omega (arith, left-one k now going e)) (λ e. omega (arith, ap (λ (then : Progress). left (then .held)) (next-none k now e)))
+      ⊎-elim (λ e. omega (arith, left-one k now going e)) (λ e. omega (arith, ap (λ (then : Progress). unsent (then .held)) (next-none k now e)))
       (true-or-false (owned (k + 1) (now .held)))
 
   module _ (now : Progress) (going : Going now) where
@@ -197,15 +205,15 @@ module _ (s : List ℕ) (ok : isAccepted (sheetTest s) ≡ true) (owners : ℕ �
     unfolding round next
     going-round = going-turns colours
 
-    -- as far as turn n of a round hops have been taken away, or nothing has happened and the colour c that has an owner is still to come
+    -- as far as turn n of a round sendings have been taken away, or nothing has happened and the colour c that has an owner is still to come
     module _ (c : ℕ) (has : owned (c + 1) (now .held) ≡ true) where
-      falls : (n : ℕ) → (left (forEach n next now .held) < left (now .held)) ⊎ ((forEach n next now ≡ now) × (n ≤ c))
+      falls : (n : ℕ) → (unsent (forEach n next now .held) < unsent (now .held)) ⊎ ((forEach n next now ≡ now) × (n ≤ c))
       unfolding forEach
       falls zero = inr (refl, omega arith)
       falls (suc n) =
           ⊎-elim
           (λ less. inl (omega (arith, left-next n was (going-turns n), less)))
-          (λ still. ⊎-elim (λ made. inl (omega (arith, left-one n was (going-turns n) made, ap (λ (then : Progress). left (then .held)) (still .0)))) (none still)
+          (λ still. ⊎-elim (λ made. inl (omega (arith, left-one n was (going-turns n) made, ap (λ (then : Progress). unsent (then .held)) (still .0)))) (none still)
           (true-or-false (owned (n + 1) (was .held))))
           (falls n)
         where
@@ -213,26 +221,26 @@ module _ (s : List ℕ) (ok : isAccepted (sheetTest s) ≡ true) (owners : ℕ �
           was = forEach n next now
 
           none : (was ≡ now) × (n ≤ c) → owned (n + 1) (was .held) ≡ false
-              → (left (next n was .held) < left (now .held)) ⊎ ((next n was ≡ now) × (suc n ≤ c))
+              → (unsent (next n was .held) < unsent (now .held)) ⊎ ((next n was ≡ now) × (suc n ≤ c))
           none still e = inr (
             next-none n was e ∙ still .0,
             ⊎-elim (λ (l : n < c). l) (λ (l : n ≡ c). not-both has (sym (ap₂ (λ (k : ℕ) (then : Progress). owned (k + 1) (then .held)) l (still .0)) ∙ e))
                 (below-or-last n c (omega (arith, still .1))),
           )
 
-      round-falls : c < colours → left (round way now .held) < left (now .held)
+      round-falls : c < colours → unsent (round way now .held) < unsent (now .held)
       unfolding round next
       round-falls h = ⊎-elim (λ less. less) (λ still. absurd (omega (arith, still .1))) (falls colours)
 
-  -- after n rounds nothing is outside, or n hops are made
+  -- after n rounds nothing is outside, or n sendings are made
   record Gone (n : ℕ) (now : Progress) : Type 0 where
     going : Going now
-    nearer : (outside (probeCount s) (now .held) ≡ false) ⊎ (left (now .held) + n ≤ hops s)
+    nearer : (outside (probeCount s) (now .held) ≡ false) ⊎ (unsent (now .held) + n ≤ sendingsIn mode s)
 
-  gone : (n : ℕ) → Gone n (rounds way n (before (packetsOf s)))
+  gone : (n : ℕ) → Gone n (rounds way n (before (firstIn mode s)))
   unfolding rounds forEach
-  gone zero = record { going = going-first; nearer = inr (omega (arith, first-left s ok)) }
-  gone (suc n) = go (rounds way n (before (packetsOf s))) (gone n)
+  gone zero = record { going = going-first; nearer = inr (omega (arith, sendings-left s ok mode)) }
+  gone (suc n) = go (rounds way n (before (firstIn mode s))) (gone n)
     where
       go : (now : Progress) → Gone n now → Gone (suc n) (cond (outside (probeCount s) (now .held)) (round way now) now)
       go now so = on (outside (probeCount s) (now .held)) refl
@@ -240,45 +248,43 @@ module _ (s : List ℕ) (ok : isAccepted (sheetTest s) ≡ true) (owners : ℕ �
           on : (b : Bool) → outside (probeCount s) (now .held) ≡ b → Gone (suc n) (cond b (round way now) now)
           on false e = record { going = so .going; nearer = inl e }
           on true e =
-              let holder = some-where (probeCount s) (λ k. holds (now .held) (k + 2)) e in
-              let v : ℕ = holder .0 + 2 in
-              let probe = probe-yes (probeCount s) v (omega arith) (omega (arith, holder .1)) in
-              let colour = fair .served (holds (now .held)) v probe (holder .2) in
+              let ready = some-may s ok mode (now .held) e in
+              let colour = fair .served (mays (now .held)) (ready .0) (ready .1) (ready .2) in
               let less = round-falls now (so .going) (colour .0) (colour .2) (colour .1) in
               record {
                 going = going-round now (so .going);
                 nearer = ⊎-elim (λ none. not-both e none) (λ near. inr (omega (arith, less, near))) (so .nearer);
               }
 
-  -- so the hops are rounds enough
+  -- so the sendings are rounds enough
   last : Progress
-  last = rounds way (hops s) (before (packetsOf s))
+  last = rounds way (sendingsIn mode s) (before (firstIn mode s))
 
-  end : Gone (hops s) last
+  end : Gone (sendingsIn mode s) last
   unfolding last
-  end = gone (hops s)
+  end = gone (sendingsIn mode s)
 
   all-in : Arrived s (last .held)
-  all-in = ⊎-elim (λ none. none-outside s (last .held) none) (λ near. none-left s ok (last .held) (omega (arith, near))) (end .nearer)
+  all-in = ⊎-elim (λ none. none-outside s (last .held) none) (λ near. none-left mode s ok (last .held) (omega (arith, near))) (end .nearer)
 
-  good : Good s (planBytes (slotsOf s way))
-  unfolding slotsOf last
+  good : GoodIn mode s (planBytes (slotsIn mode s way))
+  unfolding slotsIn last
   good =
       record {
         sheet = ok;
-        slots = slotsOf s way;
-        few = omega (arith, end .going .fewer, hops-most s ok);
+        slots = slotsIn mode s way;
+        few = omega (arith, end .going .fewer, sendings-most s ok mode);
         written = refl;
         runs = end .going .runs;
         arrived = subst (λ (held : List ℕ). Arrived s held) (sym (end .going .after)) all-in;
       }
 
-  pub own-plan : OwnPlan s way
-  unfolding slotsOf last good
+  pub own-plan : OwnPlan mode s way
+  unfolding slotsIn last good
   own-plan =
       record {
         good = good;
-        passed = good-passed s (planBytes (slotsOf s way)) good;
+        passed = good-passed mode s (planBytes (slotsIn mode s way)) good;
         few = omega (arith, end .going .fewer);
         room = omega (arith, end .going .shorter);
       }
@@ -337,9 +343,17 @@ module _ (s : List ℕ) (ok : isAccepted (sheetTest s) ≡ true) where
             );
       }
 
-  pub by-probe-plan : OwnPlan s (byProbe s)
+  -- the plan by probe, of packets and of merged readings alike
+  pub by-probe-own : (mode : Mode) → OwnPlan mode s (byProbeIn mode s)
+  by-probe-own mode = own-plan mode s ok (ownersByProbe probeColour) (coloursUsed (probeColours s)) by-probe-fair
+
+  pub by-probe-plan : OwnPlan Packets s (byProbe s)
   unfolding byProbe
-  by-probe-plan = own-plan s ok (ownersByProbe probeColour) (coloursUsed (probeColours s)) by-probe-fair
+  by-probe-plan = by-probe-own Packets
+
+  pub merged-plan : OwnPlan Merged s (merged s)
+  unfolding merged
+  merged-plan = by-probe-own Merged
 
   -- by level: those that are taken one after the other do not conflict, and where one of a colour holds a packet one of that colour is taken
   by-level-fair : Fair s (ownersByLevel (probeCount s) (entry (conflictTable s)) levelColour) (coloursUsed (levelColours s))
@@ -370,7 +384,6 @@ module _ (s : List ℕ) (ok : isAccepted (sheetTest s) ≡ true) where
             );
       }
 
-  pub by-level-plan : OwnPlan s (byLevel s)
+  pub by-level-plan : OwnPlan Packets s (byLevel s)
   unfolding byLevel
-  by-level-plan = own-plan s ok (ownersByLevel (probeCount s) (entry (conflictTable s)) levelColour) (coloursUsed (levelColours s)) by-level-fair
-  -- the judge passes our plans of an accepted sheet, and counts their slots
+  by-level-plan = own-plan Packets s ok (ownersByLevel (probeCount s) (entry (conflictTable s)) levelColour) (coloursUsed (levelColours s)) by-level-fair

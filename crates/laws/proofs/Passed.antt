@@ -10,17 +10,19 @@ use native.Mathlib.Omega.{arith}
 use lib.Dec.{ltb}
 use lib.ListN.{length, getD}
 use borrow.Author.Tests.{ltb-true, ltb-false, leb-false, not-false, lt-ltb}
+use Rattle.meaning.specs.declared.Mode.{Mode}
 use Rattle.meaning.specs.declared.Outcome.{Outcome}
 use Rattle.meaning.specs.Words.{places}
 use Rattle.meaning.specs.Yard.{isProbe}
 use Rattle.meaning.specs.Plan.{nextAt, sendersAt}
-use Rattle.meaning.specs.Rounds.{moved}
+use Rattle.meaning.specs.Rounds.{moved, mayIn, goesIn}
 use Rattle.meaning.specs.Answer.{isAccepted, given, _then_}
 use Rattle.meaning.specs.Judge.{slotTest, Judging, slotJudged}
 use Rattle.laws.proofs.Turns.{some-none}
 use Rattle.laws.proofs.Walk.{probe-least, probe-most}
 use Rattle.laws.proofs.Moving.{Rising, Each, Sender}
 use Rattle.laws.proofs.Running.{at-each}
+use Rattle.laws.proofs.Modes.{may-holds}
 use Rattle.laws.proofs.Accepted.{then-accepted, given-accepted}
 
 rising-read : (lo : ℕ) (l : List ℕ) → (0 < length l → lo < getD l 0 0) → ((i : ℕ) → suc i < length l → getD l i 0 < getD l (suc i) 0) → Rising lo l
@@ -76,41 +78,47 @@ pub record Passed (p : ℕ) (parent : ℕ → ℕ) (relation : ℕ → ℕ → B
   pub sending : Each (Sender parent held) slot
   pub apart : Apart relation slot
 
-pub passed : (p : ℕ) (parent : ℕ → ℕ) (relation : ℕ → ℕ → Bool) (held slot : List ℕ) (place : ℕ) → p ≤ 63
-    → ((v : ℕ) → isProbe p v ≡ true → parent v < places) → isAccepted (slotTest p relation held place slot) ≡ true → Passed p parent relation held slot
-passed p parent relation held slot place few inside h =
-    let is = told p relation held place slot h in
+pub passed : (mode : Mode) (p : ℕ) (parent : ℕ → ℕ) (relation : ℕ → ℕ → Bool) (held slot : List ℕ) (place : ℕ) → p ≤ 63
+    → ((v : ℕ) → isProbe p v ≡ true → goesIn mode parent v < places) → isAccepted (slotTest p relation (mayIn mode p parent held) place slot) ≡ true
+    → Passed p (goesIn mode parent) relation held slot
+passed mode p parent relation held slot place few inside h =
+    let is = told p relation (mayIn mode p parent held) place slot h in
     record {
       rising =
           rising-read 1 slot (λ hi. omega (arith, probe-least p (getD slot 0 0) (is .probes 0 hi)))
           (λ i hi. subst (λ (j : ℕ). getD slot i 0 < getD slot j 0) (add-one i) (is .rises i (omega arith)));
       probes = at-each (λ v. isProbe p v ≡ true) slot (is .probes);
       sending =
-          at-each (Sender parent held) slot
-          (λ i hi. (is .holding i hi, omega (arith, probe-most p (getD slot i 0) (is .probes i hi)), inside (getD slot i 0) (is .probes i hi)));
+          at-each (Sender (goesIn mode parent) held) slot
+          (λ i hi. (
+            ltb-true 0 (getD held (getD slot i 0) 0)
+                (may-holds mode p parent held (getD slot i 0) (lt-ltb 0 (getD (mayIn mode p parent held) (getD slot i 0) 0) (is .holding i hi))),
+            omega (arith, probe-most p (getD slot i 0) (is .probes i hi)),
+            inside (getD slot i 0) (is .probes i hi),
+          ));
       apart = apart-read relation slot (is .apart);
     }
 
 -- the turn of one slot
-module _ (p : ℕ) (parent : ℕ → ℕ) (relation : ℕ → ℕ → Bool) (plan : List ℕ) (place : ℕ) (now : Judging) where
+module _ (mode : Mode) (p : ℕ) (parent : ℕ → ℕ) (relation : ℕ → ℕ → Bool) (plan : List ℕ) (place : ℕ) (now : Judging) where
   abbrev slot : List ℕ
   slot = sendersAt plan (now .at)
 
   abbrev test : Outcome
-  test = slotTest p relation (now .held) place slot
+  test = slotTest p relation (mayIn mode p parent (now .held)) place slot
 
   abbrev answer : Outcome
   answer = given 11 place (ltb (length plan) (nextAt plan (now .at))) then test
 
   abbrev after : Judging
-  after = slotJudged p parent relation plan place now
+  after = slotJudged mode p parent relation plan place now
 
   -- it passes: it ends within the plan, its tests find nothing, and its packets move
   pub record Passes : Type 0 where
     pub within : nextAt plan (now .at) ≤ length plan
     pub tested : isAccepted test ≡ true
     pub next : after .at ≡ nextAt plan (now .at)
-    pub moves : after .held ≡ moved parent slot (now .held)
+    pub moves : after .held ≡ moved (goesIn mode parent) slot (now .held)
 
   -- it is refused: nothing moves
   pub record Refused : Type 0 where
@@ -124,7 +132,7 @@ module _ (p : ℕ) (parent : ℕ → ℕ) (relation : ℕ → ℕ → Bool) (pla
     where
       ways : Bool → Judging
       ways b =
-          cond b (record { outcome = answer; at = nextAt plan (now .at); held = moved parent slot (now .held) })
+          cond b (record { outcome = answer; at = nextAt plan (now .at); held = moved (goesIn mode parent) slot (now .held) })
           (record { outcome = answer; at = now .at; held = now .held })
 
       go : (b : Bool) → isAccepted answer ≡ b → Passes ⊎ Refused

@@ -9,9 +9,9 @@ use native.Mathlib.Nat.{not-suc-le-zero}
 use native.Mathlib.Omega.{arith}
 use lib.ListN.{length, getD, length-append, List·getD-append}
 use lib.Seq.{getD-append-seam}
+use Rattle.meaning.specs.declared.Mode.{Mode}
 use Rattle.meaning.specs.Words.{someProbe}
-use Rattle.meaning.specs.Sheet.{packetsOf, hops}
-use Rattle.meaning.specs.Rounds.{outside, slotOf, turnOf, heldAfter, Progress, recorded, Way, turn, round, rounds, before, slotsOf}
+use Rattle.meaning.specs.Rounds.{holds, outside, firstIn, sendingsIn, slotOf, turnOf, heldAfter, Progress, recorded, Way, turn, round, rounds, before, slotsIn}
 use Rattle.laws.proofs.Turns.{below-or-last, forEach-keeps}
 use Rattle.laws.proofs.Joining.{owned-slot}
 
@@ -50,7 +50,7 @@ one-keeps parent slot now sends has k h =
 module _ (way : Way) where
   turn-keeps : (s : ℕ) (now : Progress) → HaveSenders now → HaveSenders (recorded (way .parent) (turn way s (now .held)) now)
   turn-keeps s now has =
-      of-turn (way .probes) (way .relation) (way .may (now .held)) (way .owners s (way .may (now .held)))
+      of-turn (way .probes) (way .relation) (holds (way .may (now .held))) (way .owners s (holds (way .may (now .held))))
       (λ slots. HaveSenders (recorded (way .parent) slots now))
       (subst HaveSenders (sym (recorded-none (way .parent) now)) has) (λ sends. one-keeps (way .parent) _ now sends has)
 
@@ -71,6 +71,6 @@ module _ (way : Way) where
       (λ _ _ was. busy-keeps (outside (way .probes) (was .held)) was)
 
 -- every slot of a plan has a sender, by whatever way
-pub no-empty-slot : (s : List ℕ) (way : Way) (k : ℕ) → k < length (slotsOf s way) → 0 < length (getD (slotsOf s way) k [])
-unfolding slotsOf
-no-empty-slot s way = rounds-keep way (hops s) (before (packetsOf s)) (λ k h. absurd (not-suc-le-zero h))
+pub no-empty-slot : (mode : Mode) (s : List ℕ) (way : Way) (k : ℕ) → k < length (slotsIn mode s way) → 0 < length (getD (slotsIn mode s way) k [])
+unfolding slotsIn
+no-empty-slot mode s way = rounds-keep way (sendingsIn mode s) (before (firstIn mode s)) (λ k h. absurd (not-suc-le-zero h))

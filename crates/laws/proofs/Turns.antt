@@ -142,6 +142,11 @@ pub most-one : (i : ℕ) (f : ℕ → ℕ) → most (i + 1) f ≡ max (most i f)
 unfolding most
 most-one i f = rw (add-one i)
 
+pub most-same : (n : ℕ) (f g : ℕ → ℕ) → ((k : ℕ) → k < n → f k ≡ g k) → most n f ≡ most n g
+unfolding most
+most-same zero f g e = refl
+most-same (suc n) f g e = ap₂ max (most-same n f g (λ k h. e k (omega arith))) (e n (omega arith))
+
 pub length-tab : {A : Type 0} (n : ℕ) (f : ℕ → A) → length (tab n f) ≡ n
 unfolding tab
 length-tab zero f = refl

@@ -4,10 +4,12 @@ use mathlib.Core.Bool.{true}
 use mathlib.Core.List.{List}
 use Prim.Native.Nat.{ℕ, _+_, _≤_}
 use native.Mathlib.Omega.{arith}
+use Rattle.meaning.specs.declared.Mode.{Mode}
+use Rattle.meaning.specs.declared.Mode.the-variants.{Packets, Merged}
 use Rattle.meaning.specs.Yard.{isProbe}
 use Rattle.meaning.specs.Sheet.{probeCount, parentOf, pairRecords, pairCount, interfere}
 use Rattle.meaning.specs.Answer.{isAccepted, sheetTest}
-use Rattle.meaning.specs.Legal.{clash}
+use Rattle.meaning.specs.Legal.{clash, goesOf}
 use Rattle.laws.proofs.Walk.{probe-below}
 use Rattle.laws.proofs.Conflicting.{siblings-conflict, parent-conflicts, conflict-sym, interfere-sym}
 use Rattle.laws.proofs.Accepted.{AcceptedYard, accepted-yard, parent-outside}
@@ -22,6 +24,11 @@ module _ (s : List ℕ) (ok : isAccepted (sheetTest s) ≡ true) where
 
   pub inside : (v : ℕ) → isProbe (probeCount s) v ≡ true → (1 ≤ parentOf s v) × (parentOf s v ≤ probeCount s + 1)
   inside v h = (yard .probe v h .parent-least, yard .probe v h .parent-most)
+
+  -- what is sent goes to a probe or to the gateway
+  pub goes-inside : (mode : Mode) (v : ℕ) → isProbe (probeCount s) v ≡ true → (1 ≤ goesOf mode s v) × (goesOf mode s v ≤ probeCount s + 1)
+  goes-inside Packets v h = inside v h
+  goes-inside Merged v h = (omega arith, omega arith)
 
   pub rooted : Rooted (probeCount s) (parentOf s)
   rooted =

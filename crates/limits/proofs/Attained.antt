@@ -13,9 +13,9 @@ use Rattle.meaning.specs.Sheet.{parentOf, packetsOf, levelOf, hops, allPackets,
 use Rattle.meaning.specs.Plan.{slotBytes, planBytes}
 use Rattle.meaning.specs.Conflict.{disturb, conflict, conflictTable, largestDegree}
 use Rattle.meaning.specs.Colour.{smallestFree, nextOf, colouredBy, probeColours, levelsConflict, levels, depth, levelColours}
-use Rattle.meaning.specs.Rounds.{joined, ownersByProbe, ownersByLevel, slotOf, turnOf, moved, heldAfter, recorded, round, rounds, byProbe, byLevel, slotsOf}
-use Rattle.meaning.specs.Answer.{isAccepted, _then_, inOrder, probeTest, walkTest, pairTest, countsTest, sheetTest, planTest, planMade}
-use Rattle.meaning.specs.Judge.{slotTest, slotJudged, slotsJudged, planJudgedBy, planJudged, judge}
+use Rattle.meaning.specs.Rounds.{joined, ownersByProbe, ownersByLevel, slotOf, turnOf, moved, heldAfter, recorded, round, rounds, byProbe, byLevel, slotsIn, slotsOf}
+use Rattle.meaning.specs.Answer.{isAccepted, _then_, inOrder, probeTest, walkTest, pairTest, countsTest, sheetTest, planTestIn, planMadeIn, planMade}
+use Rattle.meaning.specs.Judge.{slotTest, slotJudged, slotsJudged, planJudgedBy, planJudged, judgeIn, judge}
 
 abbrev pub lone : List ℕ
 lone = 1 ∷ 1 ∷ 15 ∷ 0 ∷ 0 ∷ []
@@ -72,7 +72,7 @@ attains =
 pub attained : T attains
 unfolding forEach some sum most tab probesThat reaches climb climbed lagOn parentOf packetsOf levelOf hops allPackets slowest leastSlots interfere slotBytes
     disturb conflict conflictTable smallestFree nextOf colouredBy probeColours levelsConflict levels depth levelColours
-    joined ownersByProbe ownersByLevel slotOf turnOf moved heldAfter recorded round rounds byProbe byLevel slotsOf
-    _then_ inOrder probeTest walkTest pairTest countsTest sheetTest planTest planMade
-    slotTest slotJudged slotsJudged planJudgedBy planJudged judge
+    joined ownersByProbe ownersByLevel slotOf turnOf moved heldAfter recorded round rounds byProbe byLevel slotsIn
+    _then_ inOrder probeTest walkTest pairTest countsTest sheetTest planTestIn planMadeIn
+    slotTest slotJudged slotsJudged planJudgedBy planJudged judgeIn
 attained = tt

@@ -9,6 +9,7 @@ use native.Mathlib.Decide.{decLt}
 use native.Mathlib.Omega.{arith}
 use lib.ListN.{length, getD, take, length-take, List·getD-eq-default}
 use lib.Seq.{take-take, getD-take}
+use Rattle.meaning.specs.declared.Mode.the-variants.{Packets}
 use Rattle.meaning.specs.declared.Outcome.{Outcome}
 use Rattle.meaning.specs.declared.Verdict.{Verdict}
 use Rattle.meaning.specs.declared.Judgement.{Judgement}
@@ -40,7 +41,7 @@ ofSheet o = record { verdict = record { outcome = o; slots = 0 }; names = nobody
 
 sheet-refused : (s : List ℕ) → isAccepted (sheetTest s) ≡ false → (plan : List ℕ) (room : ℕ) → bookMade s plan room ≡ refusedBook (ofSheet (sheetTest s))
 sheet-refused s refused plan room =
-    let same : judgement s plan ≡ ofSheet (sheetTest s) = judgement-refused s refused plan in
+    let same : judgement s plan ≡ ofSheet (sheetTest s) = judgement-refused s refused Packets plan in
     book-refused s plan room (ap (λ (j : Judgement). isAccepted (j .verdict .outcome)) same ∙ refused) ∙ ap refusedBook same
 
 -- the first bytes of bytes are bytes
@@ -55,12 +56,12 @@ bytes-first l bytes n k = go (decLt k n)
 
 plan-first : (s plan : List ℕ) → ((k : ℕ) → getD plan k 0 < 256) → (room : ℕ) → bookMade s (take decidingPlan plan) room ≡ bookMade s plan room
 plan-first s plan bytes room =
-    decided-by (λ l. bookMade s l room) (refusedBook (ofSheet (sheetTest s))) s plan (λ refused l. sheet-refused s refused l room)
+    decided-by decidingPlan (λ l. bookMade s l room) (refusedBook (ofSheet (sheetTest s))) s plan (λ refused l. sheet-refused s refused l room)
     (λ ok long.
     let same = plan-judgement-decided s plan bytes in
     let verdict : isAccepted (judgement s plan .verdict .outcome) ≡ false =
-    ⊎-elim (λ (h : isAccepted (judge s plan .outcome) ≡ true). absurd (omega (arith, passed-short s ok plan bytes h, long)))
-    (λ (h : isAccepted (judge s plan .outcome) ≡ false). ap (λ (v : Verdict). isAccepted (v .outcome)) (without-names s plan) ∙ h)
+    ⊎-elim (λ (h : isAccepted (judge s plan .outcome) ≡ true). absurd (omega (arith, passed-short Packets s ok plan bytes h, long)))
+    (λ (h : isAccepted (judge s plan .outcome) ≡ false). ap (λ (v : Verdict). isAccepted (v .outcome)) (without-names Packets s plan) ∙ h)
     (true-or-false (isAccepted (judge s plan .outcome))) in
     book-refused s (take decidingPlan plan) room (ap (λ (j : Judgement). isAccepted (j .verdict .outcome)) same ∙ verdict)
     ∙ ap refusedBook same

@@ -10,6 +10,7 @@ use native.Mathlib.Omega.{arith}
 use borrow.Author.Tests.{le-ltb}
 use lib.Dec.{ltb}
 use lib.ListN.{length, length-append}
+use Rattle.meaning.specs.declared.Mode.the-variants.{Packets}
 use Rattle.meaning.specs.declared.Outcome.{Outcome}
 use Rattle.meaning.specs.declared.Verdict.{Verdict}
 use Rattle.meaning.specs.declared.Judgement.{Judgement}
@@ -20,7 +21,7 @@ use Rattle.meaning.specs.Conflict.{entry, conflictTable}
 use Rattle.meaning.specs.Rounds.{outside}
 use Rattle.meaning.specs.Legal.{heldFirst}
 use Rattle.meaning.specs.Answer.{accepted, isAccepted, given, _then_}
-use Rattle.meaning.specs.Judge.{slotsDone, planJudgedBy, planJudged, judge, judgement}
+use Rattle.meaning.specs.Judge.{slotsDone, planJudgedBy, planJudged, judgeIn, judge, judgement}
 use Rattle.meaning.specs.Book.{sends, hears, twoEach, counted, wakeBook, anyBook, BookMade, bookMade}
 use Rattle.laws.proofs.Turns.{sum-same, sum-least, sum-constant}
 use Rattle.laws.proofs.Walk.{probe-yes}
@@ -122,7 +123,7 @@ module _ (s plan : List ℕ) (h : isAccepted (judge s plan .outcome) ≡ true) w
 
   -- a passed plan's outcome is 0 with place 0
   pub passed-whole : judge s plan .outcome ≡ accepted
-  unfolding judge planJudged planJudgedBy
+  unfolding judgeIn planJudged planJudgedBy
   passed-whole =
       let sheet = then-accepted _ _ h in
       let long = then-accepted _ _ (sheet .1) in
@@ -135,7 +136,7 @@ module _ (s plan : List ℕ) (h : isAccepted (judge s plan .outcome) ≡ true) w
       ∙ gives-none 17 (twoAt plan 0) left-out (given-accepted 17 (twoAt plan 0) left-out refl (left .1))
     where
       left-out : Bool
-      left-out = outside (probeCount s) (slotsDone (probeCount s) (parentOf s) (entry (conflictTable s)) (heldFirst s) plan .held)
+      left-out = outside (probeCount s) (slotsDone Packets (probeCount s) (parentOf s) (entry (conflictTable s)) (heldFirst s) plan .held)
 
 -- what is made, by whether it is made
 abbrev pub madeBy : Judgement → List ℕ → Outcome → Bool → BookMade
@@ -163,9 +164,9 @@ module _ (s plan : List ℕ) (room : ℕ) where
       ∙ made-outcome (isAccepted bookOutcome)
       ∙ ⊎-elim
       (λ (h : isAccepted (judgement s plan .verdict .outcome) ≡ true).
-      let passed : isAccepted (judge s plan .outcome) ≡ true = ap (λ (v : Verdict). isAccepted (v .outcome)) (sym (without-names s plan)) ∙ h in
+      let passed : isAccepted (judge s plan .outcome) ≡ true = ap (λ (v : Verdict). isAccepted (v .outcome)) (sym (without-names Packets s plan)) ∙ h in
       then-goes (judgement s plan .verdict .outcome) _ h
       ∙ gives-none 22 0 _ (le-ltb room (length (wakeBook s plan)) (omega (arith, enough, book-most s plan passed)))
-      ∙ sym (ap (λ (v : Verdict). v .outcome) (without-names s plan) ∙ passed-whole s plan passed))
+      ∙ sym (ap (λ (v : Verdict). v .outcome) (without-names Packets s plan) ∙ passed-whole s plan passed))
       (λ (h : isAccepted (judgement s plan .verdict .outcome) ≡ false). then-stays (judgement s plan .verdict .outcome) _ h)
       (true-or-false (isAccepted (judgement s plan .verdict .outcome)))

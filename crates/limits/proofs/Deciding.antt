@@ -9,6 +9,8 @@ use borrow.Author.Tests.{ltb-false, leb-true, leb-false, le-ltb, lt-ltb, ne-eqb}
 use lib.Dec.{ltb, leb}
 use lib.ListN.{length, take}
 use lib.Seq.{take-all, getD-take, length-take-le}
+use Rattle.meaning.specs.declared.Mode.{Mode}
+use Rattle.meaning.specs.declared.Mode.the-variants.{Packets}
 use Rattle.meaning.specs.declared.Outcome.{Outcome}
 use Rattle.meaning.specs.declared.Planned.{Planned}
 use Rattle.meaning.specs.declared.Verdict.{Verdict}
@@ -16,8 +18,8 @@ use Rattle.meaning.specs.declared.Names.{Names}
 use Rattle.meaning.specs.Sheet.{decidingSheet, twoAt, probeCount, pairCountAt, pairCount, sheetLength}
 use Rattle.meaning.specs.Plan.{anyPlan}
 use Rattle.meaning.specs.Rounds.{Way, byProbe, slotsOf}
-use Rattle.meaning.specs.Answer.{isAccepted, given, _then_, countsTest, sheetTest, refusedPlan, PlanMade, planMade}
-use Rattle.meaning.specs.Judge.{planJudged, judge, nobody, judgement}
+use Rattle.meaning.specs.Answer.{isAccepted, given, _then_, countsTest, sheetTest, refusedPlan, PlanMade, planMadeIn}
+use Rattle.meaning.specs.Judge.{planJudged, judgeIn, nobody, judgementIn}
 use Rattle.meaning.specs.Lister.{firstLine, slotLines, refusalLine, list, listing}
 use Rattle.laws.proofs.PlanMade.{nothing, makes, sheet-refuses}
 use Rattle.laws.proofs.Accepted.{then-stays, pairs-of-few}
@@ -129,30 +131,32 @@ module _ (s : List ℕ) (long : decidingSheet ≤ length s) where
 
 -- a refused sheet: the planner, the judge and the lister answer by the sheet's test alone
 module _ (s : List ℕ) (refused : isAccepted (sheetTest s) ≡ false) where
-  plan-refused : (by : List ℕ → Way) (room : ℕ) → planMade by s room ≡ nothing by s room (sheetTest s)
-  plan-refused by room =
-      let stays = sheet-refuses by s room refused in
-      makes by s room false (ap isAccepted stays ∙ refused) ∙ ap (nothing by s room) stays
+  plan-refused : (mode : Mode) (by : List ℕ → Way) (room : ℕ) → planMadeIn mode by s room ≡ nothing mode by s room (sheetTest s)
+  plan-refused mode by room =
+      let stays = sheet-refuses mode by s room refused in
+      makes mode by s room false (ap isAccepted stays ∙ refused) ∙ ap (nothing mode by s room) stays
 
   text-refused : list s ≡ refusalLine (sheetTest s)
   unfolding list
   text-refused =
-      ap (λ (made : PlanMade). line (isAccepted (made .answer .outcome)) (made .answer)) (plan-refused byProbe anyPlan)
+      ap (λ (made : PlanMade). line (isAccepted (made .answer .outcome)) (made .answer)) (plan-refused Packets byProbe anyPlan)
       ∙ ap (λ (b : Bool). line b (refusedPlan (sheetTest s))) refused
     where
       line : Bool → Planned → List ℕ
       line b p = cond b (firstLine s p ++ slotLines 0 (slotsOf s (byProbe s))) (refusalLine (p .outcome))
 
-  pub verdict-refused : (plan : List ℕ) → judge s plan ≡ record { outcome = sheetTest s; slots = 0 }
-  unfolding judge
-  verdict-refused plan =
-      let stays = then-stays (sheetTest s) (given 11 0 (ltb (length plan) 2) then planJudged s plan) refused in
+  pub verdict-refused : (mode : Mode) (plan : List ℕ) → judgeIn mode s plan ≡ record { outcome = sheetTest s; slots = 0 }
+  unfolding judgeIn
+  verdict-refused mode plan =
+      let stays = then-stays (sheetTest s) (given 11 0 (ltb (length plan) 2) then planJudged mode s plan) refused in
       ap (λ (o : Outcome). record { outcome = o; slots = cond (isAccepted o) (twoAt plan 0) 0 }) stays
       ∙ ap (λ (b : Bool). record { outcome = sheetTest s; slots = cond b (twoAt plan 0) 0 }) refused
 
-  pub judgement-refused : (plan : List ℕ) → judgement s plan ≡ record { verdict = record { outcome = sheetTest s; slots = 0 }; names = nobody }
-  judgement-refused plan =
-      ap₂ (λ (v : Verdict) (n : Names). record { verdict = v; names = n }) (without-names s plan ∙ verdict-refused plan) (refused-names s plan refused)
+  pub judgement-refused : (mode : Mode) (plan : List ℕ)
+      → judgementIn mode s plan ≡ record { verdict = record { outcome = sheetTest s; slots = 0 }; names = nobody }
+  judgement-refused mode plan =
+      ap₂ (λ (v : Verdict) (n : Names). record { verdict = v; names = n }) (without-names mode s plan ∙ verdict-refused mode plan)
+      (refused-names mode s plan refused)
 
 -- what is answered of the first 4,162 bytes is answered of all
 pub decided : {A : Type 0} (answer : List ℕ → A) (of : Outcome → A) → ((s : List ℕ) → isAccepted (sheetTest s) ≡ false → answer s ≡ of (sheetTest s))
@@ -167,15 +171,16 @@ decided {A} answer of refused s = go (leb (length s) decidingSheet) refl
         let no = is-refused s long in
         refused (take decidingSheet s) (ap isAccepted (same-test s long) ∙ no) ∙ ap of (same-test s long) ∙ sym (refused s no)
 
-pub plan-made-decided : (by : List ℕ → Way) (s : List ℕ) (room : ℕ) → planMade by (take decidingSheet s) room ≡ planMade by s room
-plan-made-decided by s room = decided (λ t. planMade by t room) (λ o. nothing by s room o) (λ t no. plan-refused t no by room) s
+pub plan-made-decided : (mode : Mode) (by : List ℕ → Way) (s : List ℕ) (room : ℕ) → planMadeIn mode by (take decidingSheet s) room ≡ planMadeIn mode by s room
+plan-made-decided mode by s room = decided (λ t. planMadeIn mode by t room) (λ o. nothing mode by s room o) (λ t no. plan-refused t no mode by room) s
 
-pub verdict-decided : (s plan : List ℕ) → judge (take decidingSheet s) plan ≡ judge s plan
-verdict-decided s plan = decided (λ t. judge t plan) (λ o. record { outcome = o; slots = 0 }) (λ t no. verdict-refused t no plan) s
+pub verdict-decided : (mode : Mode) (s plan : List ℕ) → judgeIn mode (take decidingSheet s) plan ≡ judgeIn mode s plan
+verdict-decided mode s plan = decided (λ t. judgeIn mode t plan) (λ o. record { outcome = o; slots = 0 }) (λ t no. verdict-refused t no mode plan) s
 
-pub judgement-decided : (s plan : List ℕ) → judgement (take decidingSheet s) plan ≡ judgement s plan
-judgement-decided s plan =
-    decided (λ t. judgement t plan) (λ o. record { verdict = record { outcome = o; slots = 0 }; names = nobody }) (λ t no. judgement-refused t no plan) s
+pub judgement-decided : (mode : Mode) (s plan : List ℕ) → judgementIn mode (take decidingSheet s) plan ≡ judgementIn mode s plan
+judgement-decided mode s plan =
+    decided (λ t. judgementIn mode t plan) (λ o. record { verdict = record { outcome = o; slots = 0 }; names = nobody })
+    (λ t no. judgement-refused t no mode plan) s
 
 pub text-decided : (s : List ℕ) → listing s ≡ list s
 text-decided s = decided list refusalLine text-refused s

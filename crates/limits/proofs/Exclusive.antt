@@ -11,7 +11,7 @@ use Rattle.meaning.specs.Sheet.{probeCount, parentOf}
 use Rattle.meaning.specs.Rounds.{moved}
 use Rattle.meaning.specs.Answer.{isAccepted, sheetTest}
 use Rattle.meaning.specs.Judge.{judge}
-use Rattle.meaning.specs.Legal.{clash, Runs, heldFirst}
+use Rattle.meaning.specs.Legal.{clash, RunsIn, Runs, heldFirst}
 use Rattle.laws.proofs.Walk.{not-both}
 use Rattle.laws.proofs.Moving.{Rising, Each, weighAll}
 use Rattle.laws.proofs.Slots.{true-or-false}
@@ -60,7 +60,7 @@ module _ (s : List ℕ) (ok : isAccepted (sheetTest s) ≡ true) (test : ℕ →
       (true-or-false (test v))
 
   pub exclusive-runs : (held : List ℕ) (slots : List (List ℕ)) → Runs s held slots → together (probeCount s) test (sent slots) ≤ length slots
-  unfolding Runs sent
+  unfolding RunsIn sent
   exclusive-runs held [] runs = omega (arith, together-none (probeCount s) test)
   exclusive-runs held (slot ∷ slots) runs =
       let pass = legal-listed s ok held slot (runs .0) in

@@ -1,5 +1,5 @@
--- Limits of every plan, for every accepted sheet. Read Fewest, MostByProbe, MostByLevel, ColoursFew and RoundBeatsSlot for what is promised; the others
--- carry them.
+-- Limits of every plan, for every accepted sheet. Read Fewest, MostByProbe, MostByLevel, MergedMost, ColoursFew and RoundBeatsSlot for what is promised; the
+-- others carry them.
 pub mod Sums
 pub mod Served
 pub mod Sending
@@ -13,6 +13,7 @@ pub mod Exclusive
 pub mod Fewest
 pub mod Serving
 pub mod MostByProbe
+pub mod MergedMost
 pub mod ColoursFew
 pub mod NoProbes
 pub mod RoundBeatsSlot

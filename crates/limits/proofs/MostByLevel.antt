@@ -13,12 +13,13 @@ use lib.Dec.{eqb}
 use lib.ListN.{length, getD, set, replicate}
 use lib.Seq.{getD-set-same}
 use borrow.Author.Tests.{eq-eqb, eqb-true, ltb-false, lt-ltb}
+use Rattle.meaning.specs.declared.Mode.the-variants.{Packets}
 use Rattle.meaning.specs.Words.{sumProbes, places}
 use Rattle.meaning.specs.Yard.{isProbe, reaches, climb, branchLag}
 use Rattle.meaning.specs.Sheet.{probeCount, parentOf, packetsOf, levelOf, hops, allPackets}
 use Rattle.meaning.specs.Conflict.{entry, conflictTable}
 use Rattle.meaning.specs.Colour.{coloursUsed, depth, levelColours}
-use Rattle.meaning.specs.Rounds.{Progress, holds, outside, clashes, joins, joined, ownersByLevel, turn as turnSlots, byLevel, slotsOf}
+use Rattle.meaning.specs.Rounds.{Progress, holds, outside, clashes, joins, joined, ownersByLevel, turn as turnSlots, byLevel, slotsIn, slotsOf}
 use Rattle.meaning.specs.Answer.{isAccepted, sheetTest}
 use Rattle.laws.proofs.Turns.{forEach-one, some-none, some-where, same-or-other}
 use Rattle.laws.proofs.Walk.{probe-least, probe-most, probe-yes, reaches-here, reaches-on, climb-most}
@@ -184,8 +185,8 @@ module _ (s : List ℕ) (ok : isAccepted (sheetTest s) ≡ true) where
         go v probe true e any = (v, probe, eqb-true (levelOf s v + 1) at e, any)
         go v probe false e any = absurd (omega arith)
 
-    owes : (now : Progress) → Kept s ok by now → 1 ≤ online (λ v. getD (now .held) v 0) at
-        → online (sent (now .slots)) at + 1 ≤ online (sent (turn s ok by (its - 1 + 1) now .slots)) at
+    owes : (now : Progress) → Kept Packets s ok by now → 1 ≤ online (λ v. getD (now .held) v 0) at
+        → online (sent (now .slots)) at + 1 ≤ online (sent (turn Packets s ok by (its - 1 + 1) now .slots)) at
     unfolding online its
     owes now kept any =
         let c : ℕ = its - 1 + 1 in
@@ -197,23 +198,23 @@ module _ (s : List ℕ) (ok : isAccepted (sheetTest s) ≡ true) where
         let owner = level-owns c (holds (now .held)) v (found .1) here may in
         let x = owner .0 in
         let place = probe-at (probeCount s) x (owner .1) in
-        let slots : List (List ℕ) = turnSlots (way s ok by) c (now .held) in
+        let slots : List (List ℕ) = turnSlots (way Packets s ok by) c (now .held) in
         let sends : 1 ≤ sent slots x =
         owner-sends (probeCount s) (entry (conflictTable s)) (holds (now .held)) (owners c (holds (now .held))) x (owner .1) (owner .3) in
         let stands : eqb (levelOf s (x - 2 + 2) + 1) at ≡ true =
         eq-eqb (levelOf s (x - 2 + 2) + 1) at (omega (arith, ap (levelOf s) (place .1), owner .2, found .2)) in
         omega (
           arith,
-          inflow-same (probeCount s) (λ u. levelOf s u + 1) (sent (turn s ok by c now .slots)) (λ u. sent (now .slots) u + sent slots u) at
-              (λ k _ _. turn-sent s ok by c now (k + 2)),
+          inflow-same (probeCount s) (λ u. levelOf s u + 1) (sent (turn Packets s ok by c now .slots)) (λ u. sent (now .slots) u + sent slots u) at
+              (λ k _ _. turn-sent Packets s ok by c now (k + 2)),
           inflow-add (probeCount s) (λ u. levelOf s u + 1) (sent (now .slots)) (sent slots) at,
           inflow-part (probeCount s) (λ u. levelOf s u + 1) (sent slots) at (x - 2) (place .0) stands,
           ap (sent slots) (place .1),
           sends,
         )
 
-    balanced : (now : Progress) → Kept s ok by now
-        → online (λ v. getD (now .held) v 0) at + online (sent (now .slots)) at ≡ online (packetsOf s) at + along (sent (now .slots)) at
+    balanced : (now : Progress) → Kept Packets s ok by now
+        → online (packetsOf s) at + along (sent (now .slots)) at ≤ online (λ v. getD (now .held) v 0) at + online (sent (now .slots)) at
     unfolding online
     balanced now kept =
         omega (
@@ -226,18 +227,18 @@ module _ (s : List ℕ) (ok : isAccepted (sheetTest s) ≡ true) where
           along-next (sent (now .slots)) at h,
         )
 
-    grows : (c : ℕ) (now : Progress) → (n : ℕ) → online (sent (now .slots)) n ≤ online (sent (turn s ok by c now .slots)) n
+    grows : (c : ℕ) (now : Progress) → (n : ℕ) → online (sent (now .slots)) n ≤ online (sent (turn Packets s ok by c now .slots)) n
     unfolding online
     grows c now n =
-        inflow-least (probeCount s) (λ u. levelOf s u + 1) (sent (now .slots)) (sent (turn s ok by c now .slots)) n
-        (λ k _ _. more-sent s ok by c now (k + 2))
+        inflow-least (probeCount s) (λ u. levelOf s u + 1) (sent (now .slots)) (sent (turn Packets s ok by c now .slots)) n
+        (λ k _ _. more-sent Packets s ok by c now (k + 2))
 
-    along-grows : (c : ℕ) (now : Progress) → along (sent (now .slots)) at ≤ along (sent (turn s ok by c now .slots)) at
+    along-grows : (c : ℕ) (now : Progress) → along (sent (now .slots)) at ≤ along (sent (turn Packets s ok by c now .slots)) at
     unfolding along
     along-grows c now =
-        inflow-least (depth s) (λ m. m - 1) (online (sent (now .slots))) (online (sent (turn s ok by c now .slots))) at (λ k _ _. grows c now (k + 2))
+        inflow-least (depth s) (λ m. m - 1) (online (sent (now .slots))) (online (sent (turn Packets s ok by c now .slots))) at (λ k _ _. grows c now (k + 2))
 
-    empty : (now : Progress) → Kept s ok by now → outside (probeCount s) (now .held) ≡ false → online (λ v. getD (now .held) v 0) at ≡ 0
+    empty : (now : Progress) → Kept Packets s ok by now → outside (probeCount s) (now .held) ≡ false → online (λ v. getD (now .held) v 0) at ≡ 0
     unfolding online inflow
     empty now kept none =
         sum-zero (probeCount s) (λ k. cond (eqb (levelOf s (k + 2) + 1) at) (getD (now .held) (k + 2) 0) 0)
@@ -246,10 +247,10 @@ module _ (s : List ℕ) (ok : isAccepted (sheetTest s) ≡ true) where
         let nothing : getD (now .held) (k + 2) 0 ≡ 0 = omega arith in
         ap (λ (n : ℕ). cond (eqb (levelOf s (k + 2) + 1) at) n 0) nothing ∙ zero-either (eqb (levelOf s (k + 2) + 1) at))
 
-    serves-level : (r : ℕ) → min (online (sent (after s ok by r .slots)) at + 1) (online (packetsOf s) at + along (sent (after s ok by r .slots)) at)
-        ≤ online (sent (after s ok by (suc r) .slots)) at
+    serves-level : (r : ℕ) → min (online (sent (after Packets s ok by r .slots)) at + 1) (online (packetsOf s) at + along (sent (after Packets s ok by r .slots)) at)
+        ≤ online (sent (after Packets s ok by (suc r) .slots)) at
     serves-level r =
-        serves s ok by (online (packetsOf s) at) (λ now. online (λ v. getD (now .held) v 0) at)
+        serves Packets s ok by (online (packetsOf s) at) (λ now. online (λ v. getD (now .held) v 0) at)
         (λ now. online (sent (now .slots)) at) (λ now. along (sent (now .slots)) at) balanced (λ c now. (grows c now at, along-grows c now)) empty
         (its - 1) (omega (arith, its-least, its-most)) owes r
 
@@ -275,10 +276,10 @@ module _ (s : List ℕ) (ok : isAccepted (sheetTest s) ≡ true) where
   behind at = branchLag (depth s) (λ m. m - 1) (online (packetsOf s)) at
 
   -- after as many rounds as there are packets, and as it may be behind, each level has sent all from there on
-  all-sent : (at : ℕ) → isProbe (depth s) at ≡ true → (r : ℕ) → min (beyond at) (r - behind at) ≤ online (sent (after s ok by r .slots)) at
+  all-sent : (at : ℕ) → isProbe (depth s) at ≡ true → (r : ℕ) → min (beyond at) (r - behind at) ≤ online (sent (after Packets s ok by r .slots)) at
   unfolding along behind
   all-sent at h r =
-      served (depth s) (λ m. m - 1) (online (packetsOf s)) beyond behind (λ i n. online (sent (after s ok by i .slots)) n)
+      served (depth s) (λ m. m - 1) (online (packetsOf s)) beyond behind (λ i n. online (sent (after Packets s ok by i .slots)) n)
       (λ n hn. omega (arith, beyond-parts n hn))
       (λ c hc _. lags (depth s) (λ m. m - 1) (online (packetsOf s)) line c hc)
       (λ i n hn. serves-level n hn i)
@@ -287,17 +288,17 @@ module _ (s : List ℕ) (ok : isAccepted (sheetTest s) ≡ true) where
   abbrev enough : ℕ
   enough = allPackets s + lineLag s
 
-  all-home : sumProbes (probeCount s) (packetsOf s) ≤ inflow (probeCount s) (parentOf s) (sent (after s ok by enough .slots)) 1
+  all-home : sumProbes (probeCount s) (packetsOf s) ≤ inflow (probeCount s) (parentOf s) (sent (after Packets s ok by enough .slots)) 1
   unfolding allPackets lineLag behind online
   all-home = go (decLe 1 (depth s))
     where
-      go : Dec (1 ≤ depth s) → sumProbes (probeCount s) (packetsOf s) ≤ inflow (probeCount s) (parentOf s) (sent (after s ok by enough .slots)) 1
+      go : Dec (1 ≤ depth s) → sumProbes (probeCount s) (packetsOf s) ≤ inflow (probeCount s) (parentOf s) (sent (after Packets s ok by enough .slots)) 1
       go (yes l) =
           omega (
             arith,
             all-sent 2 (probe-yes (depth s) 2 (omega arith) (omega arith)) enough,
             beyond-first,
-            online-first (sent (after s ok by enough .slots)),
+            online-first (sent (after Packets s ok by enough .slots)),
           )
       go (no l) =
           let none : sumProbes (probeCount s) (packetsOf s) ≡ 0 =
@@ -307,8 +308,8 @@ module _ (s : List ℕ) (ok : isAccepted (sheetTest s) ≡ true) where
 
   -- demand 3, by level
   pub by-level-most : length (slotsOf s (byLevel s)) ≤ coloursUsed (levelColours s) * (allPackets s + lineLag s)
-  unfolding slotsOf byLevel
-  by-level-most = slots-most s ok by enough (hops s) all-home
+  unfolding slotsIn byLevel
+  by-level-most = slots-most Packets s ok by enough (hops s) all-home
 
   -- by the depth
   line-levels : lineLag s ≤ depth s - 1

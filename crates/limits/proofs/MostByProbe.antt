@@ -3,6 +3,7 @@
 use mathlib.Core.Path.{_≡_, sym, ap, ap₂, _∙_}
 use mathlib.Core.Bool.{Bool, true, false, _&&_}
 use mathlib.Core.List.{List}
+use mathlib.Core.Logic.{⊎-elim}
 use Prim.Native.Nat.{ℕ, suc, _+_, _-_, _*_, _≤_, _<_, min}
 use native.Mathlib.Nat.{mul-le-mul-left}
 use native.Mathlib.Decide.{decLt}
@@ -10,16 +11,20 @@ use native.Mathlib.Omega.{arith}
 use lib.Dec.{eqb}
 use lib.ListN.{length, getD, List·getD-eq-default}
 use borrow.Author.Tests.{eq-eqb, ltb-false, lt-ltb}
+use Rattle.meaning.specs.declared.Mode.{Mode}
+use Rattle.meaning.specs.declared.Mode.the-variants.{Packets}
 use Rattle.meaning.specs.Words.{tab, places}
 use Rattle.meaning.specs.Yard.{isProbe, branchPackets, branchLag}
 use Rattle.meaning.specs.Sheet.{probeCount, parentOf, packetsOf, hops, heaviest, longest, slowest}
 use Rattle.meaning.specs.Conflict.{entry, conflictTable}
 use Rattle.meaning.specs.Colour.{coloursUsed, probeColours}
-use Rattle.meaning.specs.Rounds.{Progress, holds, ownersByProbe, byProbe, slotsOf}
+use Rattle.meaning.specs.Rounds.{Progress, holds, outside, ownersByProbe, byProbe, slotsIn, slotsOf}
 use Rattle.meaning.specs.Answer.{isAccepted, sheetTest}
+use Rattle.meaning.specs.Legal.{mayOf}
 use Rattle.laws.proofs.Turns.{some-none, getD-tab, length-tab}
-use Rattle.laws.proofs.Walk.{probe-least, probe-most, probe-yes}
-use Rattle.laws.proofs.Slots.{Only, and-right, never}
+use Rattle.laws.proofs.Modes.{may-holds}
+use Rattle.laws.proofs.Walk.{not-both, probe-least, probe-most, probe-yes}
+use Rattle.laws.proofs.Slots.{Only, and-right, never, true-or-false}
 use Rattle.laws.proofs.Levels.{most-holds, probes-proper}
 use Rattle.limits.specs.Sent.{inflow, sent}
 use Rattle.limits.proofs.Sums.{probe-at}
@@ -75,42 +80,60 @@ module _ (s : List ℕ) (ok : isAccepted (sheetTest s) ≡ true) where
     unfolding colour
     its-turn = omega (arith, colour-least)
 
-    owes : (now : Progress) → Kept s ok by now → 1 ≤ getD (now .held) v 0 → sent (now .slots) v + 1 ≤ sent (turn s ok by (colour - 1 + 1) now .slots) v
-    owes now kept any =
-        let c : ℕ = colour - 1 + 1 in
-        let its : getD (probeColours s) v 0 ≡ c = its-turn in
-        let may : holds (now .held) v ≡ true = lt-ltb 0 (getD (now .held) v 0) any in
-        omega (
-          arith,
-          turn-sent s ok by c now v,
-          owner-sends (probeCount s) (entry (conflictTable s)) (holds (now .held)) (ownersByProbe (λ u. getD (probeColours s) u 0) c (holds (now .held))) v h
-              (owns (λ u. getD (probeColours s) u 0) c (holds (now .held)) v node its may),
-        )
+    -- in each round it sends if it may, whatever it receives
+    module _ (mode : Mode) where
+      owes : (now : Progress) → Kept mode s ok by now → 1 ≤ getD (mayOf mode s (now .held)) v 0
+          → sent (now .slots) v + 1 ≤ sent (turn mode s ok by (colour - 1 + 1) now .slots) v
+      owes now kept any =
+          let c : ℕ = colour - 1 + 1 in
+          let its : getD (probeColours s) v 0 ≡ c = its-turn in
+          let mays : ℕ → Bool = holds (mayOf mode s (now .held)) in
+          let may : mays v ≡ true = lt-ltb 0 (getD (mayOf mode s (now .held)) v 0) any in
+          omega (
+            arith,
+            turn-sent mode s ok by c now v,
+            owner-sends (probeCount s) (entry (conflictTable s)) mays (ownersByProbe (λ u. getD (probeColours s) u 0) c mays) v h
+                (owns (λ u. getD (probeColours s) u 0) c mays v node its may),
+          )
+
+      -- with nothing outside it may not
+      none-may : (held : List ℕ) → outside (probeCount s) held ≡ false → getD (mayOf mode s held) v 0 ≡ 0
+      none-may held none =
+          let at = probe-at (probeCount s) v h in
+          let empty : holds held v ≡ false =
+          ap (holds held) (sym (at .1)) ∙ some-none (probeCount s) (λ j. holds held (j + 2)) none (v - 2) (at .0) in
+          ⊎-elim (λ may. not-both (may-holds mode (probeCount s) (parentOf s) held v may) empty)
+          (λ not. omega (arith, ltb-false 0 (getD (mayOf mode s held) v 0) not))
+          (true-or-false (holds (mayOf mode s held) v))
+
+      pub serves-in : (own : ℕ) (got : Progress → ℕ)
+          → ((now : Progress) → Kept mode s ok by now → own + got now ≤ getD (mayOf mode s (now .held)) v 0 + sent (now .slots) v)
+          → ((c : ℕ) (now : Progress) → got now ≤ got (turn mode s ok by c now))
+          → (r : ℕ) → min (sent (after mode s ok by r .slots) v + 1) (own + got (after mode s ok by r)) ≤ sent (after mode s ok by (suc r) .slots) v
+      serves-in own got balanced grows =
+          serves mode s ok by own (λ now. getD (mayOf mode s (now .held)) v 0) (λ now. sent (now .slots) v) got balanced
+          (λ c now. (more-sent mode s ok by c now v, grows c now))
+          (λ now kept none. none-may (now .held) none)
+          (colour - 1) (omega (arith, colour-least, colour-most)) owes
 
     -- it sends in every round while it holds a packet
-    pub serves-probe : (r : ℕ) → min (sent (after s ok by r .slots) v + 1) (packetsOf s v + inflow (probeCount s) (parentOf s) (sent (after s ok by r .slots)) v) ≤ sent (after s ok by (suc r) .slots) v
-    serves-probe r =
-        serves s ok by (packetsOf s v) (λ now. getD (now .held) v 0) (λ now. sent (now .slots) v)
-        (λ now. inflow (probeCount s) (parentOf s) (sent (now .slots)) v)
-        (λ now kept. kept .balance v node)
-        (λ c now. (
-          more-sent s ok by c now v,
-          inflow-least (probeCount s) (parentOf s) (sent (now .slots)) (sent (turn s ok by c now .slots)) v
-              (λ k _ _. more-sent s ok by c now (k + 2)),
-        ))
-        (λ now kept none.
-        let at = probe-at (probeCount s) v h in
-        let less = ltb-false 0 (getD (now .held) (v - 2 + 2) 0) (some-none (probeCount s) (λ j. holds (now .held) (j + 2)) none (v - 2) (at .0)) in
-        omega (arith, less, ap (λ (j : ℕ). getD (now .held) j 0) (at .1)))
-        (colour - 1) (omega (arith, colour-least, colour-most)) owes r
+    pub serves-probe : (r : ℕ)
+        → min (sent (after Packets s ok by r .slots) v + 1) (packetsOf s v + inflow (probeCount s) (parentOf s) (sent (after Packets s ok by r .slots)) v)
+        ≤ sent (after Packets s ok by (suc r) .slots) v
+    serves-probe =
+        serves-in Packets (packetsOf s v) (λ now. inflow (probeCount s) (parentOf s) (sent (now .slots)) v)
+        (λ now kept. omega (arith, kept .balance v node))
+        (λ c now.
+        inflow-least (probeCount s) (parentOf s) (sent (now .slots)) (sent (turn Packets s ok by c now .slots)) v
+        (λ k _ _. more-sent Packets s ok by c now (k + 2)))
 
   -- after as many rounds as the slowest branch wants, each probe has sent all of its branch's
-  all-sent : (v : ℕ) → isProbe (probeCount s) v ≡ true → branchPackets (probeCount s) (parentOf s) (packetsOf s) v ≤ sent (after s ok by (slowest s) .slots) v
+  all-sent : (v : ℕ) → isProbe (probeCount s) v ≡ true → branchPackets (probeCount s) (parentOf s) (packetsOf s) v ≤ sent (after Packets s ok by (slowest s) .slots) v
   unfolding slowest
   all-sent v h =
       let p : ℕ = probeCount s in
       let enough = served p (parentOf s) (packetsOf s) (branchPackets p (parentOf s) (packetsOf s)) (branchLag p (parentOf s) (packetsOf s))
-      (λ r u. sent (after s ok by r .slots) u)
+      (λ r u. sent (after Packets s ok by r .slots) u)
       (λ u hu. omega (arith, branch-own p (parentOf s) (Yard.rooted s ok) (packetsOf s) u hu))
       (λ c hc _. lags p (parentOf s) (packetsOf s) (Yard.rooted s ok) c hc)
       (λ r u hu. serves-probe u hu r)
@@ -119,15 +142,15 @@ module _ (s : List ℕ) (ok : isAccepted (sheetTest s) ≡ true) where
 
   -- if after r rounds each probe has sent all of its branch's, all are home, and r rounds were enough
   pub rounds-enough : (r : ℕ)
-      → ((v : ℕ) → isProbe (probeCount s) v ≡ true → branchPackets (probeCount s) (parentOf s) (packetsOf s) v ≤ sent (after s ok by r .slots) v)
+      → ((v : ℕ) → isProbe (probeCount s) v ≡ true → branchPackets (probeCount s) (parentOf s) (packetsOf s) v ≤ sent (after Packets s ok by r .slots) v)
       → length (slotsOf s (byProbe s)) ≤ coloursUsed (probeColours s) * r
-  unfolding slotsOf byProbe
+  unfolding slotsIn byProbe
   rounds-enough r all =
-      slots-most s ok by r (hops s)
+      slots-most Packets s ok by r (hops s)
       (omega (
         arith,
         branch-all (probeCount s) (parentOf s) (Yard.rooted s ok) (packetsOf s),
-        inflow-least (probeCount s) (parentOf s) (branchPackets (probeCount s) (parentOf s) (packetsOf s)) (sent (after s ok by r .slots)) 1
+        inflow-least (probeCount s) (parentOf s) (branchPackets (probeCount s) (parentOf s) (packetsOf s)) (sent (after Packets s ok by r .slots)) 1
             (λ k hk _. all (k + 2) (probe-yes (probeCount s) (k + 2) (omega arith) (omega arith))),
       ))
 

@@ -8,6 +8,7 @@ use native.Mathlib.Nat.{le-refl, mul-le-mul}
 use native.Mathlib.Omega.{arith}
 use lib.ListN.{length, take}
 use lib.Seq.{take-all}
+use Rattle.meaning.specs.declared.Mode.the-variants.{Packets}
 use Rattle.meaning.specs.Words.{places}
 use Rattle.meaning.specs.Yard.{isProbe}
 use Rattle.meaning.specs.Sheet.{probeCount, parentOf, packetsOf}
@@ -37,9 +38,9 @@ module _ (s : List ℕ) (ok : isAccepted (sheetTest s) ≡ true) (slots : List (
   unfolding sent
   none-first v = refl
 
-  pub slots-not-ahead : (r v : ℕ) → isProbe (probeCount s) v ≡ true → sent (take r slots) v ≤ sent (after s ok (by s ok) r .slots) v
+  pub slots-not-ahead : (r v : ℕ) → isProbe (probeCount s) v ≡ true → sent (take r slots) v ≤ sent (after Packets s ok (by s ok) r .slots) v
   slots-not-ahead =
-      never-ahead (probeCount s) (parentOf s) (packetsOf s) (λ r. sent (after s ok (by s ok) r .slots)) (λ r. sent (take r slots))
+      never-ahead (probeCount s) (parentOf s) (packetsOf s) (λ r. sent (after Packets s ok (by s ok) r .slots)) (λ r. sent (take r slots))
       (λ r v h. serves-probe s ok v h r) none-first
       (λ r v h.
       let node : v < places = omega (arith, probe-most (probeCount s) v h, Yard.few s ok) in

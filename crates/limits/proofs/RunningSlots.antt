@@ -9,12 +9,13 @@ use native.Mathlib.Omega.{arith}
 use lib.Dec.{eqb}
 use lib.ListN.{length, getD, take}
 use borrow.Author.Tests.{eq-eqb, ne-eqb}
+use Rattle.meaning.specs.declared.Mode.the-variants.{Packets}
 use Rattle.meaning.specs.Words.{places}
 use Rattle.meaning.specs.Yard.{isProbe}
 use Rattle.meaning.specs.Sheet.{probeCount, parentOf}
 use Rattle.meaning.specs.Rounds.{moved, heldAfter}
 use Rattle.meaning.specs.Answer.{isAccepted, sheetTest}
-use Rattle.meaning.specs.Legal.{clash, Legal, Runs}
+use Rattle.meaning.specs.Legal.{clash, Legal, RunsIn, Runs}
 use Rattle.laws.proofs.Turns.{same-or-other}
 use Rattle.laws.proofs.Moving.{Rising, Each, Sender, length-moved}
 use Rattle.laws.proofs.Slots.{each-so}
@@ -54,9 +55,9 @@ module _ (s : List ℕ) (ok : isAccepted (sheetTest s) ≡ true) where
   pub legal-listed : (held slot : List ℕ) → Legal s held slot → Passed (probeCount s) (parentOf s) (clash s) held slot
   legal-listed held slot legal =
       record {
-        rising = legal-rising s ok held slot legal;
+        rising = legal-rising Packets s ok held slot legal;
         probes = at-each (λ v. isProbe (probeCount s) v ≡ true) slot (legal .probes);
-        sending = legal-senders s ok held slot legal;
+        sending = legal-senders Packets s ok held slot legal;
         apart = apart-read (clash s) slot (legal .apart);
       }
 
@@ -92,7 +93,7 @@ module _ (s : List ℕ) (ok : isAccepted (sheetTest s) ≡ true) where
   -- conservation
   pub runs-balance : (held : List ℕ) (slots : List (List ℕ)) → length held ≡ places → Runs s held slots → (v : ℕ) → v < places
       → getD (heldAfter (parentOf s) held slots) v 0 + sent slots v ≡ getD held v 0 + flow (sent slots) v
-  unfolding Runs heldAfter sent
+  unfolding RunsIn heldAfter sent
   runs-balance held [] long runs v h = omega (arith, flow-none v)
   runs-balance held (slot ∷ slots) long runs v h =
       omega (
@@ -105,7 +106,7 @@ module _ (s : List ℕ) (ok : isAccepted (sheetTest s) ≡ true) where
   -- one slot more: one packet more at most, and never more than it had and its children sent before that slot
   pub one-slot-more : (held : List ℕ) (slots : List (List ℕ)) (r : ℕ) → length held ≡ places → Runs s held slots → (v : ℕ) → v < places
       → (sent (take (suc r) slots) v ≤ sent (take r slots) v + 1) × (sent (take (suc r) slots) v ≤ getD held v 0 + flow (sent (take r slots)) v)
-  unfolding Runs sent
+  unfolding RunsIn sent
   one-slot-more held [] r long runs v h = (omega arith, omega arith)
   one-slot-more held (slot ∷ slots) zero long runs v h =
       (omega (arith, at-most-one held slot long (runs .0) v), omega (arith, at-most-held held slot long (runs .0) v))

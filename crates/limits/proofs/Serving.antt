@@ -1,5 +1,5 @@
 -- A round serves whom it owes a turn. What holds a packet when the round begins has sent before its turn comes, or still holds one, since a
--- node loses packets only by sending. Said of anything that is held, sent and received, so that it serves probes and levels alike.
+-- node loses packets only by sending. Said of anything that is held, sent and received, so that it serves probes and levels, packets and merged readings alike.
 use mathlib.Core.Path.{_≡_, refl, sym, ap, _∙_, subst}
 use mathlib.Core.Bool.{Bool, true, false, cond}
 use mathlib.Core.List.{List, [], _∷_, _++_}
@@ -10,17 +10,20 @@ use native.Mathlib.Decide.{decLe}
 use native.Mathlib.Omega.{arith}
 use lib.ListN.{length, getD, length-append}
 use borrow.Author.Tests.{ltb-true, le-ltb}
+use Rattle.meaning.specs.declared.Mode.{Mode}
 use Rattle.meaning.specs.Words.{forEach, someProbe, sumProbes, places}
 use Rattle.meaning.specs.Yard.{isProbe}
-use Rattle.meaning.specs.Sheet.{probeCount, parentOf, packetsOf}
+use Rattle.meaning.specs.Sheet.{probeCount, parentOf}
 use Rattle.meaning.specs.Conflict.{entry, conflictTable}
-use Rattle.meaning.specs.Rounds.{Progress, Way, holds, outside, joined, senders, slotOf, turnOf, turn as turnSlots, heldAfter, recorded, round, rounds, before}
+use Rattle.meaning.specs.Rounds.{Progress, Way, holds, outside, firstIn, joined, senders, slotOf, turnOf, turn as turnSlots, heldAfter, recorded, round, rounds, before}
 use Rattle.meaning.specs.Answer.{isAccepted, sheetTest}
+use Rattle.meaning.specs.Legal.{mayOf, goesOf}
 use Rattle.laws.proofs.Turns.{in-sum, below-or-last, forEach-keeps, forEach-stays, some-found, none-some, sum-same, getD-tab, length-tab, same-or-other}
 use Rattle.laws.proofs.Walk.{probe-yes}
 use Rattle.laws.proofs.Moving.{Each, Sender, length-moved}
 use Rattle.laws.proofs.Slots.{Only, each-slot, each-so, rising-slot}
 use Rattle.laws.proofs.Joining.{chosen-within, joined-keep}
+use Rattle.laws.proofs.Modes.{may-holds, goes-node}
 use Rattle.laws.proofs.Recorded.{recorded-none, of-turn}
 use Rattle.laws.proofs.Own.{wayOver}
 use Rattle.limits.specs.Sent.{inflow, sentIn, sent}
@@ -57,63 +60,68 @@ pub record Owning : Type 0 where
   pub colours : ℕ
   pub only : (c : ℕ) (may : ℕ → Bool) → Only may (owners c may)
 
-module _ (s : List ℕ) (ok : isAccepted (sheetTest s) ≡ true) (by : Owning) where
+module _ (mode : Mode) (s : List ℕ) (ok : isAccepted (sheetTest s) ≡ true) (by : Owning) where
   abbrev pub way : Way
-  way = wayOver s (by .owners) (by .colours)
+  way = wayOver mode s (by .owners) (by .colours)
 
   abbrev pub flow : (ℕ → ℕ) → ℕ → ℕ
-  flow = inflow (probeCount s) (parentOf s)
+  flow = inflow (probeCount s) (goesOf mode s)
 
-  -- conservation: what a node holds and has sent is what it had and what its children sent
+  -- who may send
+  abbrev mays : Progress → ℕ → Bool
+  mays now = holds (mayOf mode s (now .held))
+
+  -- conservation: what a node holds and has sent is what it had and what came to it
   pub record Kept (now : Progress) : Type 0 where
     pub long : length (now .held) ≡ places
-    pub balance : (v : ℕ) → v < places → getD (now .held) v 0 + sent (now .slots) v ≡ packetsOf s v + flow (sent (now .slots)) v
+    pub balance : (v : ℕ) → v < places → getD (now .held) v 0 + sent (now .slots) v ≡ firstIn mode s v + flow (sent (now .slots)) v
 
   -- what a turn makes, and the progress after it
   abbrev made : ℕ → Progress → List (List ℕ)
   made c now = turnSlots way c (now .held)
 
   unfoldable pub turn : ℕ → Progress → Progress
-  turn c now = recorded (parentOf s) (made c now) now
+  turn c now = recorded (goesOf mode s) (made c now) now
 
   module _ (c : ℕ) (now : Progress) where
     slot : List ℕ
-    slot = slotOf (probeCount s) (entry (conflictTable s)) (holds (now .held)) (by .owners c (holds (now .held)))
+    slot = slotOf (probeCount s) (entry (conflictTable s)) (mays now) (by .owners c (mays now))
 
     probe-senders : Each (λ v. isProbe (probeCount s) v ≡ true) slot
     unfolding slot
     probe-senders =
-        each-so (λ v. (holds (now .held) v ≡ true) × (2 ≤ v) × (v < probeCount s + 2)) (λ v. isProbe (probeCount s) v ≡ true) slot
+        each-so (λ v. (mays now v ≡ true) × (2 ≤ v) × (v < probeCount s + 2)) (λ v. isProbe (probeCount s) v ≡ true) slot
         (λ v h. probe-yes (probeCount s) v (h .1) (omega (arith, h .2)))
-        (each-slot (probeCount s) (entry (conflictTable s)) (holds (now .held)) (by .owners c (holds (now .held))) (by .only c (holds (now .held))))
+        (each-slot (probeCount s) (entry (conflictTable s)) (mays now) (by .owners c (mays now)) (by .only c (mays now)))
 
-    all-send : Each (Sender (parentOf s) (now .held)) slot
+    all-send : Each (Sender (goesOf mode s) (now .held)) slot
     unfolding slot
     all-send =
-        each-so (λ v. (holds (now .held) v ≡ true) × (2 ≤ v) × (v < probeCount s + 2)) (Sender (parentOf s) (now .held)) slot
+        each-so (λ v. (mays now v ≡ true) × (2 ≤ v) × (v < probeCount s + 2)) (Sender (goesOf mode s) (now .held)) slot
         (λ v h.
         let probe = probe-yes (probeCount s) v (h .1) (omega (arith, h .2)) in
-        (ltb-true 0 (getD (now .held) v 0) (h .0), omega (arith, h .2, Yard.few s ok), omega (arith, Yard.few s ok, Yard.inside s ok v probe .1)))
-        (each-slot (probeCount s) (entry (conflictTable s)) (holds (now .held)) (by .owners c (holds (now .held))) (by .only c (holds (now .held))))
+        let has = may-holds mode (probeCount s) (parentOf s) (now .held) v (h .0) in
+        (ltb-true 0 (getD (now .held) v 0) has, omega (arith, h .2, Yard.few s ok), goes-node s ok mode v probe))
+        (each-slot (probeCount s) (entry (conflictTable s)) (mays now) (by .owners c (mays now)) (by .only c (mays now)))
 
     pub turn-sent : (v : ℕ) → sent (turn c now .slots) v ≡ sent (now .slots) v + sent (turnSlots way c (now .held)) v
     unfolding turn recorded
     turn-sent v = sent-append (now .slots) (made c now) v
 
-    kept-one : Kept now → Kept (recorded (parentOf s) (slot ∷ []) now)
+    kept-one : Kept now → Kept (recorded (goesOf mode s) (slot ∷ []) now)
     unfolding slot recorded heldAfter
     kept-one kept =
         record {
-          long = length-moved (parentOf s) slot (now .held) ∙ kept .long;
+          long = length-moved (goesOf mode s) slot (now .held) ∙ kept .long;
           balance =
               λ v h.
-              let moves = slot-balance (probeCount s) (parentOf s) 1 slot (now .held) v h (kept .long)
-              (rising-slot (probeCount s) (entry (conflictTable s)) (holds (now .held)) (by .owners c (holds (now .held)))) all-send probe-senders in
+              let moves = slot-balance (probeCount s) (goesOf mode s) 1 slot (now .held) v h (kept .long)
+              (rising-slot (probeCount s) (entry (conflictTable s)) (mays now) (by .owners c (mays now))) all-send probe-senders in
               let more : (u : ℕ) → sent (now .slots ++ (slot ∷ [])) u ≡ sent (now .slots) u + sentIn slot u =
               λ u. omega (arith, sent-append (now .slots) (slot ∷ []) u, sent-one slot u) in
               let flows : flow (sent (now .slots ++ (slot ∷ []))) v ≡ flow (sent (now .slots)) v + flow (sentIn slot) v =
-              inflow-same (probeCount s) (parentOf s) (sent (now .slots ++ (slot ∷ []))) (λ c. sent (now .slots) c + sentIn slot c) v (λ k _ _. more (k + 2))
-              ∙ inflow-add (probeCount s) (parentOf s) (sent (now .slots)) (sentIn slot) v in
+              inflow-same (probeCount s) (goesOf mode s) (sent (now .slots ++ (slot ∷ []))) (λ c. sent (now .slots) c + sentIn slot c) v (λ k _ _. more (k + 2))
+              ∙ inflow-add (probeCount s) (goesOf mode s) (sent (now .slots)) (sentIn slot) v in
               omega (arith, moves, flows, more v, kept .balance v h);
         }
 
@@ -121,11 +129,11 @@ module _ (s : List ℕ) (ok : isAccepted (sheetTest s) ≡ true) (by : Owning) w
     turned : (P : List (List ℕ) → Type 0) → P [] → P (slot ∷ []) → P (made c now)
     unfolding slot
     turned P none one =
-        of-turn (probeCount s) (entry (conflictTable s)) (holds (now .held)) (by .owners c (holds (now .held))) P none (λ _. one)
+        of-turn (probeCount s) (entry (conflictTable s)) (mays now) (by .owners c (mays now)) P none (λ _. one)
 
     pub kept-turn : Kept now → Kept (turn c now)
     unfolding turn
-    kept-turn kept = turned (λ l. Kept (recorded (parentOf s) l now)) (subst Kept (sym (recorded-none (parentOf s) now)) kept) (kept-one kept)
+    kept-turn kept = turned (λ l. Kept (recorded (goesOf mode s) l now)) (subst Kept (sym (recorded-none (goesOf mode s) now)) kept) (kept-one kept)
 
     pub more-sent : (v : ℕ) → sent (now .slots) v ≤ sent (turn c now .slots) v
     more-sent v = omega (arith, turn-sent v)
@@ -157,18 +165,18 @@ module _ (s : List ℕ) (ok : isAccepted (sheetTest s) ≡ true) (by : Owning) w
 
   -- after r rounds
   unfoldable pub after : ℕ → Progress
-  after r = forEach r (λ _. step) (before (packetsOf s))
+  after r = forEach r (λ _. step) (before (firstIn mode s))
 
-  pub after-rounds : (r : ℕ) → after r ≡ rounds way r (before (packetsOf s))
+  pub after-rounds : (r : ℕ) → after r ≡ rounds way r (before (firstIn mode s))
   unfolding after step rounds
   after-rounds r = refl
 
-  kept-first : Kept (before (packetsOf s))
+  kept-first : Kept (before (firstIn mode s))
   unfolding sent
   kept-first =
       record {
-        long = length-tab places (packetsOf s);
-        balance = λ v h. omega (arith, getD-tab places (packetsOf s) v 0 h, inflow-none (probeCount s) (parentOf s) v);
+        long = length-tab places (firstIn mode s);
+        balance = λ v h. omega (arith, getD-tab places (firstIn mode s) v 0 h, inflow-none (probeCount s) (goesOf mode s) v);
       }
 
   kept-step : (now : Progress) → Kept now → Kept (step now)
@@ -181,7 +189,7 @@ module _ (s : List ℕ) (ok : isAccepted (sheetTest s) ≡ true) (by : Owning) w
 
   pub kept-after : (r : ℕ) → Kept (after r)
   unfolding after
-  kept-after r = forEach-keeps Kept r (λ _. step) (before (packetsOf s)) kept-first (λ _ _ now so. kept-step now so)
+  kept-after r = forEach-keeps Kept r (λ _. step) (before (firstIn mode s)) kept-first (λ _ _ now so. kept-step now so)
 
   -- a round makes at most one slot a colour
   step-few : (now : Progress) → length (step now .slots) ≤ by .colours + length (now .slots)
@@ -195,24 +203,24 @@ module _ (s : List ℕ) (ok : isAccepted (sheetTest s) ≡ true) (by : Owning) w
   after-few : (r : ℕ) → length (after r .slots) ≤ r * by .colours
   unfolding after
   after-few r =
-      forEach-counts (λ i now. length (now .slots) ≤ i * by .colours) r (λ _. step) (before (packetsOf s)) (omega arith)
+      forEach-counts (λ i now. length (now .slots) ≤ i * by .colours) r (λ _. step) (before (firstIn mode s)) (omega arith)
       (λ i _ now so. omega (arith, so, step-few now, suc-mul i (by .colours)))
 
   -- what the probes hold and what has come to the gateway is all that there was
   pub whole-balance : (now : Progress) → Kept now
-      → sumProbes (probeCount s) (λ v. getD (now .held) v 0) + flow (sent (now .slots)) 1 ≡ sumProbes (probeCount s) (packetsOf s)
+      → sumProbes (probeCount s) (λ v. getD (now .held) v 0) + flow (sent (now .slots)) 1 ≡ sumProbes (probeCount s) (firstIn mode s)
   whole-balance now kept =
       omega (
         arith,
         sym (sum-add (probeCount s) (λ k. getD (now .held) (k + 2) 0) (λ k. sent (now .slots) (k + 2)))
-            ∙ sum-same (probeCount s) (λ k. getD (now .held) (k + 2) 0 + sent (now .slots) (k + 2)) (λ k. (packetsOf s) (k + 2) + flow (sent (now .slots)) (k + 2))
+            ∙ sum-same (probeCount s) (λ k. getD (now .held) (k + 2) 0 + sent (now .slots) (k + 2)) (λ k. firstIn mode s (k + 2) + flow (sent (now .slots)) (k + 2))
             (λ k hk. kept .balance (k + 2) (omega (arith, Yard.few s ok)))
-            ∙ sum-add (probeCount s) (λ k. (packetsOf s) (k + 2)) (λ k. flow (sent (now .slots)) (k + 2)),
-        inflow-all (probeCount s) (parentOf s) (sent (now .slots)) (Yard.inside s ok),
+            ∙ sum-add (probeCount s) (λ k. firstIn mode s (k + 2)) (λ k. flow (sent (now .slots)) (k + 2)),
+        inflow-all (probeCount s) (goesOf mode s) (sent (now .slots)) (Yard.goes-inside s ok mode),
       )
 
   -- all have come home
-  pub home-after : (r : ℕ) → sumProbes (probeCount s) (packetsOf s) ≤ flow (sent (after r .slots)) 1 → outside (probeCount s) (after r .held) ≡ false
+  pub home-after : (r : ℕ) → sumProbes (probeCount s) (firstIn mode s) ≤ flow (sent (after r .slots)) 1 → outside (probeCount s) (after r .held) ≡ false
   home-after r all =
       let whole = whole-balance (after r) (kept-after r) in
       none-some (probeCount s) (λ k. holds (after r .held) (k + 2))
@@ -224,11 +232,11 @@ module _ (s : List ℕ) (ok : isAccepted (sheetTest s) ≡ true) (by : Owning) w
   stops : (r n : ℕ) → outside (probeCount s) (after r .held) ≡ false → r ≤ n → after n ≡ after r
   unfolding after step
   stops r n home h =
-      forEach-stays r n (λ _. step) (before (packetsOf s)) (after r) h refl
+      forEach-stays r n (λ _. step) (before (firstIn mode s)) (after r) h refl
       (λ _ _ _. ap (λ (b : Bool). cond b (round way (after r)) (after r)) home)
 
   -- and the slots are at most one for each colour in each round before
-  pub slots-most : (r n : ℕ) → sumProbes (probeCount s) (packetsOf s) ≤ flow (sent (after r .slots)) 1 → length (rounds way n (before (packetsOf s)) .slots) ≤ by .colours * r
+  pub slots-most : (r n : ℕ) → sumProbes (probeCount s) (firstIn mode s) ≤ flow (sent (after r .slots)) 1 → length (rounds way n (before (firstIn mode s)) .slots) ≤ by .colours * r
   slots-most r n all = subst (λ (then : Progress). length (then .slots) ≤ by .colours * r) (after-rounds n) (go (decLe n r))
     where
       go : Dec (n ≤ r) → length (after n .slots) ≤ by .colours * r
@@ -243,7 +251,7 @@ module _ (s : List ℕ) (ok : isAccepted (sheetTest s) ≡ true) (by : Owning) w
 
   -- anything that is held, sent and received, of which the turn k of each round sends some if it is held
   module _ (own : ℕ) (had gave got : Progress → ℕ)
-      (balanced : (now : Progress) → Kept now → had now + gave now ≡ own + got now)
+      (balanced : (now : Progress) → Kept now → own + got now ≤ had now + gave now)
       (grows : (c : ℕ) (now : Progress) → (gave now ≤ gave (turn c now)) × (got now ≤ got (turn c now)))
       (empty : (now : Progress) → Kept now → outside (probeCount s) (now .held) ≡ false → had now ≡ 0)
       (k : ℕ) (within : k < by .colours)

@@ -13,7 +13,7 @@ use Rattle.meaning.specs.Sheet.{probeCount, parentOf}
 use Rattle.meaning.specs.Rounds.{moved}
 use Rattle.meaning.specs.Answer.{isAccepted, sheetTest}
 use Rattle.meaning.specs.Book.{someSender, slotsWhere}
-use Rattle.meaning.specs.Legal.{Runs}
+use Rattle.meaning.specs.Legal.{RunsIn, Runs}
 use Rattle.laws.proofs.Turns.{some-where, some-none}
 use Rattle.laws.proofs.Moving.{weighAll}
 use Rattle.laws.proofs.Slots.{true-or-false}
@@ -94,7 +94,7 @@ one-or-none test slot few =
 module _ (s : List ℕ) (ok : isAccepted (sheetTest s) ≡ true) (test : ℕ → Bool) (exclusive : Exclusive s test) where
   pub slots-of-some : (held : List ℕ) (at : ℕ) (slots : List (List ℕ)) → Runs s held slots
       → length (slotsWhere (someSender test) at slots) ≡ together (probeCount s) test (sent slots)
-  unfolding Runs sent slotsWhere
+  unfolding RunsIn sent slotsWhere
   slots-of-some held at [] runs = omega (arith, together-none (probeCount s) test)
   slots-of-some held at (slot ∷ slots) runs =
       let pass = legal-listed s ok held slot (runs .0) in

@@ -9,6 +9,7 @@ use borrow.Author.Tests.{eq-eqb, ne-eqb, le-leb, lt-leb}
 use borrow.Rule.Slice.PartMut.{putMid}
 use lib.ListN.{length, take, drop, length-append, length-drop}
 use lib.Seq.{length-take-le}
+use Rattle.meaning.specs.declared.Mode.the-variants.{Packets}
 use Rattle.meaning.specs.declared.Planned.{Planned}
 use Rattle.meaning.specs.Sheet.{hops, allPackets, heaviest, leastSlots}
 use Rattle.meaning.specs.Plan.{anyPlan, front, slotsFrom, roomFor}
@@ -81,14 +82,14 @@ module _ (s : List ℕ) (buf : List ℕ) (long : length buf ≡ anyPlan) (planne
     plans : isAccepted (planMade byProbe s (length buf) .answer .outcome) ≡ true
     plans = ap (λ (p : Planned). isAccepted (p .outcome)) (sym is) ∙ eq-eqb (planned .outcome .number) 0 passed
 
-    made : planMade byProbe s (length buf) ≡ whole byProbe s (length buf) (planTest s (length buf) slots)
-    made = makes byProbe s (length buf) true (tests-accept byProbe s (length buf) plans)
+    made : planMade byProbe s (length buf) ≡ whole Packets byProbe s (length buf) (planTest s (length buf) slots)
+    made = makes Packets byProbe s (length buf) true (tests-accept Packets byProbe s (length buf) plans)
 
     pub sheet-passed : isAccepted (sheetTest s) ≡ true
-    sheet-passed = planned-sheet byProbe s (length buf) plans
+    sheet-passed = planned-sheet Packets byProbe s (length buf) plans
 
     room-passed : roomFor (hops s) ≤ length buf
-    room-passed = planned-room byProbe s (length buf) plans
+    room-passed = planned-room Packets byProbe s (length buf) plans
 
     counted : planned .slots ≡ length slots
     counted = ap (λ (p : Planned). p .slots) is ∙ ap (λ (m : PlanMade). m .answer .slots) made

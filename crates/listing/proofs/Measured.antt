@@ -10,7 +10,7 @@ use Rattle.meaning.specs.Sheet.{probeCount, parentOf}
 use Rattle.meaning.specs.Plan.{slotBytes}
 use Rattle.meaning.specs.Rounds.{moved}
 use Rattle.meaning.specs.Answer.{isAccepted, sheetTest}
-use Rattle.meaning.specs.Legal.{Runs}
+use Rattle.meaning.specs.Legal.{RunsIn, Runs}
 use Rattle.meaning.specs.Lister.{text, decimal, said, sendersText, slotLines, numbersLine, slotLine}
 use Rattle.laws.proofs.Walk.{probe-most}
 use Rattle.laws.proofs.Moving.{Each}
@@ -40,7 +40,7 @@ no-lines done = refl
 -- the lines of slots that run
 pub slots-most : (s : List ℕ) → isAccepted (sheetTest s) ≡ true → (slots : List (List ℕ)) (held : List ℕ) (done : ℕ) → Runs s held slots
     → length (slotLines done slots) ≤ 4 * length slots + 3 * length (slotBytes slots)
-unfolding Runs slotBytes
+unfolding RunsIn slotBytes
 slots-most s ok [] held done runs = omega (arith, no-lines done)
 slots-most s ok (slot ∷ slots) held done runs =
     omega (

@@ -13,7 +13,7 @@ use Rattle.meaning.specs.Plan.{slotsFrom, front}
 use Rattle.meaning.specs.Conflict.{disturb, conflict, conflictTable}
 use Rattle.meaning.specs.Rounds.{moved}
 use Rattle.meaning.specs.Answer.{_then_, inOrder, probeTest, walkTest, pairTest, countsTest, sheetTest}
-use Rattle.meaning.specs.Judge.{slotTest, twoNames, slotNames, slotJudged, slotsJudged, planJudgedBy, planJudged, judge, planNamesBy, planNames, judgement}
+use Rattle.meaning.specs.Judge.{slotTest, twoNames, slotNames, slotJudged, slotsJudged, planJudgedBy, planJudged, judgeIn, planNamesBy, planNames, judgementIn}
 use Rattle.meaning.specs.Lister.{text, decimal, sendersText}
 use Rattle.meaning.specs.Book.{slotsWhere, twoEach, wakeBook, bookMade, listAt, behindList, entryAt, wakeLine}
 use Rattle.meaning.proofs.RowBytes.{digit, pairs, hex, many, same}
@@ -93,6 +93,6 @@ pub proved-books : T (all-true books)
 unfolding digit pairs hex many same made true-row all-true A A-plan A-book books
     forEach some least sum most tab inTurn reaches climb climbed parentOf packetsOf levelOf interfere slotsFrom disturb conflict conflictTable moved
     _then_ inOrder probeTest walkTest pairTest countsTest sheetTest
-    slotTest twoNames slotNames slotJudged slotsJudged planJudgedBy planJudged judge planNamesBy planNames judgement
+    slotTest twoNames slotNames slotJudged slotsJudged planJudgedBy planJudged judgeIn planNamesBy planNames judgementIn
     text decimal sendersText slotsWhere twoEach wakeBook bookMade entryAt wakeLine
 proved-books = tt

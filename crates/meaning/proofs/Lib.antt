@@ -2,3 +2,4 @@
 pub mod RowBytes
 pub mod Yards
 pub mod Books
+pub mod MergedYards

@@ -7,6 +7,7 @@ use Prim.Native.Nat.{ℕ, suc, _+_}
 use Prim.Native.String.{String}
 use lib.Dec.{T, eqb}
 use lib.ListN.{take, drop, replicate}
+use Rattle.meaning.specs.declared.Mode.the-variants.{Packets}
 use Rattle.meaning.specs.declared.Outcome.{Outcome}
 use Rattle.meaning.specs.declared.Planned.{Planned}
 use Rattle.meaning.specs.declared.Told.{Told}
@@ -20,9 +21,10 @@ use Rattle.meaning.specs.Sheet.{twoAt, probeCount, parentOf, packetsOf, 
 use Rattle.meaning.specs.Plan.{twoBytes, slotBytes, slotsFrom, roomFor, front}
 use Rattle.meaning.specs.Conflict.{disturb, conflict, tableOf, entry, conflictTable, largestDegree}
 use Rattle.meaning.specs.Colour.{smallestFree, nextOf, colouredBy, probeColours, levelsConflict, levels, depth, levelColours}
-use Rattle.meaning.specs.Rounds.{Way, joined, ownersByProbe, ownersByLevel, slotOf, turnOf, moved, heldAfter, recorded, round, rounds, byProbe, byLevel, slotsOf}
-use Rattle.meaning.specs.Answer.{accepted, _then_, inOrder, probeTest, walkTest, pairTest, countsTest, sheetTest, planTest, planMade}
-use Rattle.meaning.specs.Judge.{Judging, slotTest, twoNames, slotNames, slotTested, slotJudged, slotsJudged, planJudgedBy, planJudged, judge, planNamesBy, planNames, judgement, choice, handedBack}
+use Rattle.meaning.specs.Rounds.{Way, joined, ownersByProbe, ownersByLevel, slotOf, turnOf, moved, heldAfter, recorded, round, rounds, byProbe, byLevel, slotsIn, slotsOf}
+use Rattle.meaning.specs.Answer.{accepted, _then_, inOrder, probeTest, walkTest, pairTest, countsTest, sheetTest, planTestIn, planMadeIn, planMade}
+use Rattle.meaning.specs.Judge.{Judging, slotTest, twoNames, slotNames, slotTested, slotJudged, slotsJudged, planJudgedBy, planJudged}
+use Rattle.meaning.specs.Judge.{judgeIn, judge, planNamesBy, planNames, judgementIn, judgement, choice, handedBack}
 use Rattle.meaning.specs.Lister.{text, decimal, numbersLine, sendersText, refusalLine, slotLine, slotLines, list, listing}
 use Rattle.meaning.specs.Telephone.{timesAny, asked}
 use Rattle.meaning.proofs.RowBytes.{digit, pairs, hex, many, same}
@@ -123,7 +125,7 @@ true-row (slot-tested sheet slot numbers) =
 
     answered : Tested → List ℕ
     answered r = r .outcome .number ∷ r .outcome .place ∷ names (r .names)
-true-row (holding sheet plan packets) = same (take (probeCount s + 2) (slotsJudged (probeCount s) (parentOf s) (entry (conflictTable s)) bytes (twoAt bytes 0) start .held)) packets
+true-row (holding sheet plan packets) = same (take (probeCount s + 2) (slotsJudged Packets (probeCount s) (parentOf s) (entry (conflictTable s)) bytes (twoAt bytes 0) start .held)) packets
   where
     s : List ℕ
     s = hex sheet
@@ -460,8 +462,8 @@ pub proved-yards : T (all-true yards)
 unfolding digit pairs hex many planner verdict names told same alike up says true-row all-true A A-with-a-pair chain turned ring below-relays five arms four-arms mixed star yards
     forEach some least sum most tab probesThat reaches climb climbed lagOn parentOf packetsOf levelOf hops allPackets heaviest longest slowest leastSlots interfere slotBytes slotsFrom
     disturb conflict conflictTable smallestFree nextOf colouredBy probeColours levelsConflict levels depth levelColours
-    joined ownersByProbe ownersByLevel slotOf turnOf moved heldAfter recorded round rounds byProbe byLevel slotsOf
-    _then_ inOrder probeTest walkTest pairTest countsTest sheetTest planTest planMade
-    slotTest twoNames slotNames slotTested slotJudged slotsJudged planJudgedBy planJudged judge planNamesBy planNames judgement choice
+    joined ownersByProbe ownersByLevel slotOf turnOf moved heldAfter recorded round rounds byProbe byLevel slotsIn
+    _then_ inOrder probeTest walkTest pairTest countsTest sheetTest planTestIn planMadeIn
+    slotTest twoNames slotNames slotTested slotJudged slotsJudged planJudgedBy planJudged judgeIn planNamesBy planNames judgementIn choice
     text decimal numbersLine sendersText slotLine slotLines list asked
 proved-yards = tt

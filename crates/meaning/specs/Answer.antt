@@ -4,15 +4,17 @@ use mathlib.Core.List.{[]}
 use Prim.Native.Nat.{ℕ, _+_, _-_, _*_, _/_}
 use lib.Dec.{eqb, ltb, leb}
 use lib.ListN.{length}
+use Rattle.meaning.specs.declared.Mode.{Mode}
+use Rattle.meaning.specs.declared.Mode.the-variants.{Packets, Merged}
 use Rattle.meaning.specs.declared.Outcome.{Outcome}
 use Rattle.meaning.specs.declared.Planned.{Planned}
 use Rattle.meaning.specs.declared.Walk.{Walk}
 use Rattle.meaning.specs.declared.Walk.the-variants.{Arrives, Never}
 use Rattle.meaning.specs.Words.{Bytes, Node, Slots, forEach}
 use Rattle.meaning.specs.Yard.{climbed}
-use Rattle.meaning.specs.Sheet.{firstOf, secondOf, probeCount, probeRecords, pairCountAt, pairCount, pairRecords, sheetLength, parentOf, hops}
+use Rattle.meaning.specs.Sheet.{firstOf, secondOf, probeCount, probeRecords, pairCountAt, pairCount, pairRecords, sheetLength, parentOf}
 use Rattle.meaning.specs.Plan.{planBytes, roomFor}
-use Rattle.meaning.specs.Rounds.{Way, slotsOf}
+use Rattle.meaning.specs.Rounds.{Way, sendingsIn, slotsIn, merged}
 
 infixr 20 _then_
 -- "Numbers returned": 0 with place 0, where none of the others is given
@@ -79,12 +81,15 @@ sheetTest s =
     then inOrder (probeCount s) (walkTest (parentOf s) (probeCount s))
     then inOrder (pairCount s) (pairTest (pairRecords s) (probeCount s))
 
--- "Numbers returned": then room (9); then 10
-unfoldable pub planTest : Bytes → (room : ℕ) → Slots → Outcome
-planTest s room slots =
+-- "Numbers returned": then room (9), by the hops or, of merged readings, by the probes; then 10
+unfoldable pub planTestIn : Mode → Bytes → (room : ℕ) → Slots → Outcome
+planTestIn mode s room slots =
     sheetTest s
-    then given 9 0 (ltb room (roomFor (hops s)))
+    then given 9 0 (ltb room (roomFor (sendingsIn mode s)))
     then given 10 0 (ltb 65535 (length slots))
+
+abbrev pub planTest : Bytes → (room : ℕ) → Slots → Outcome
+planTest s room slots = planTestIn Packets s room slots
 
 -- "Numbers returned": on refusal colours, slots and bytes written are 0
 abbrev pub refusedPlan : Outcome → Planned
@@ -96,14 +101,21 @@ pub record PlanMade : Type 0 where
   pub written : Bytes
 
 -- "Numbers returned": a planner answers number, place, colours, slots and bytes written; the plan buffer is unchanged on refusal
-unfoldable pub planMade : (by : Bytes → Way) → (s : Bytes) → (room : ℕ) → PlanMade
-planMade by s room =
+unfoldable pub planMadeIn : Mode → (by : Bytes → Way) → (s : Bytes) → (room : ℕ) → PlanMade
+planMadeIn mode by s room =
     let way = by s in
-    let slots = slotsOf s way in
-    let outcome = planTest s room slots in
+    let slots = slotsIn mode s way in
+    let outcome = planTestIn mode s room slots in
     cond (isAccepted outcome)
     (record {
       answer = record { outcome = outcome; colours = way .colours; slots = length slots; bytes = length (planBytes slots) };
       written = planBytes slots;
     })
     (record { answer = refusedPlan outcome; written = [] })
+
+abbrev pub planMade : (by : Bytes → Way) → (s : Bytes) → (room : ℕ) → PlanMade
+planMade by s room = planMadeIn Packets by s room
+
+-- "Merged readings": what the planner of this mode makes
+abbrev pub mergedMade : (s : Bytes) → (room : ℕ) → PlanMade
+mergedMade s room = planMadeIn Merged merged s room

@@ -4,6 +4,8 @@ use mathlib.Core.List.{List}
 use Prim.Native.Nat.{ℕ, _+_, _-_}
 use lib.Dec.{eqb, ltb, leb}
 use lib.ListN.{length, getD, take}
+use Rattle.meaning.specs.declared.Mode.{Mode}
+use Rattle.meaning.specs.declared.Mode.the-variants.{Packets}
 use Rattle.meaning.specs.declared.Outcome.{Outcome}
 use Rattle.meaning.specs.declared.Verdict.{Verdict}
 use Rattle.meaning.specs.declared.Names.{Names}
@@ -13,10 +15,10 @@ use Rattle.meaning.specs.declared.Choice.{Choice}
 use Rattle.meaning.specs.declared.Choice.the-variants.{Neither, First, Second}
 use Rattle.meaning.specs.Words.{Bytes, Node, Relation, forEach, some, least, tab, places}
 use Rattle.meaning.specs.Yard.{isProbe}
-use Rattle.meaning.specs.Sheet.{twoAt, probeCount, parentOf, packetsOf}
+use Rattle.meaning.specs.Sheet.{twoAt, probeCount, parentOf}
 use Rattle.meaning.specs.Conflict.{entry, conflictTable}
 use Rattle.meaning.specs.Plan.{nextAt, sendersAt}
-use Rattle.meaning.specs.Rounds.{holds, outside, moved}
+use Rattle.meaning.specs.Rounds.{holds, outside, moved, mayIn, goesIn, firstIn}
 use Rattle.meaning.specs.Answer.{accepted, isAccepted, given, _then_, sheetTest}
 
 -- "Numbers returned": 12, sender i of a slot is no probe
@@ -89,67 +91,74 @@ slotTested p relation held place slot =
     let outcome = slotTest p relation held place slot in
     record { outcome = outcome; names = slotNames p relation held slot (outcome .number) }
 
--- how far the judge has come: what is wrong so far, where the next slot begins, and the packets that each node holds
+-- how far the judge has come: what is wrong so far, where the next slot begins, and what each node holds
 pub record Judging : Type 0 where
   pub outcome : Outcome
   pub at : ℕ
   pub held : List ℕ
 
--- "Numbers returned": one slot, 11 first; a passed slot moves its packets
-unfoldable pub slotJudged : (p : ℕ) → (parent : Node → Node) → Relation → (plan : Bytes) → (place : ℕ) → Judging → Judging
-slotJudged p parent relation plan place now =
+-- "Numbers returned": one slot, 11 first; a passed slot moves its packets. "Merged readings": 14 is given where a sender is not ready
+unfoldable pub slotJudged : Mode → (p : ℕ) → (parent : Node → Node) → Relation → (plan : Bytes) → (place : ℕ) → Judging → Judging
+slotJudged mode p parent relation plan place now =
     let slot = sendersAt plan (now .at) in
-    let outcome = given 11 place (ltb (length plan) (nextAt plan (now .at))) then slotTest p relation (now .held) place slot in
+    let test = slotTest p relation (mayIn mode p parent (now .held)) place slot in
+    let outcome = given 11 place (ltb (length plan) (nextAt plan (now .at))) then test in
     cond (isAccepted outcome)
-    (record { outcome = outcome; at = nextAt plan (now .at); held = moved parent slot (now .held) })
+    (record { outcome = outcome; at = nextAt plan (now .at); held = moved (goesIn mode parent) slot (now .held) })
     (record { outcome = outcome; at = now .at; held = now .held })
 
 -- "Numbers returned": slots in order, up to the first that is refused
-unfoldable pub slotsJudged : (p : ℕ) → (parent : Node → Node) → Relation → (plan : Bytes) → (many : ℕ) → Judging → Judging
-slotsJudged p parent relation plan many start =
-    forEach many (λ k now. cond (isAccepted (now .outcome)) (slotJudged p parent relation plan (k + 1) now) now) start
+unfoldable pub slotsJudged : Mode → (p : ℕ) → (parent : Node → Node) → Relation → (plan : Bytes) → (many : ℕ) → Judging → Judging
+slotsJudged mode p parent relation plan many start =
+    forEach many (λ k now. cond (isAccepted (now .outcome)) (slotJudged mode p parent relation plan (k + 1) now) now) start
 
 -- "Numbers returned": how far the judge comes in a plan's slots, the first of which begins behind their count
-abbrev pub slotsDone : (p : ℕ) → (parent : Node → Node) → Relation → (packets : List ℕ) → (plan : Bytes) → Judging
-slotsDone p parent relation packets plan =
-    slotsJudged p parent relation plan (twoAt plan 0) (record { outcome = accepted; at = 2; held = packets })
+abbrev pub slotsDone : Mode → (p : ℕ) → (parent : Node → Node) → Relation → (packets : List ℕ) → (plan : Bytes) → Judging
+slotsDone mode p parent relation packets plan =
+    slotsJudged mode p parent relation plan (twoAt plan 0) (record { outcome = accepted; at = 2; held = packets })
 
--- "Numbers returned": the slots of a plan, then 16, then 17
-unfoldable pub planJudgedBy : (p : ℕ) → (parent : Node → Node) → Relation → (packets : List ℕ) → (plan : Bytes) → Outcome
-planJudgedBy p parent relation packets plan =
-    let end = slotsDone p parent relation packets plan in
+-- "Numbers returned": the slots of a plan, then 16, then 17. "Merged readings": 17 is given where some probe never sent, so that it still holds its reading
+unfoldable pub planJudgedBy : Mode → (p : ℕ) → (parent : Node → Node) → Relation → (packets : List ℕ) → (plan : Bytes) → Outcome
+planJudgedBy mode p parent relation packets plan =
+    let end = slotsDone mode p parent relation packets plan in
     (end .outcome)
     then given 16 (twoAt plan 0) (ltb (end .at) (length plan))
     then given 17 (twoAt plan 0) (outside p (end .held))
 
-unfoldable pub planJudged : (s plan : Bytes) → Outcome
-planJudged s plan =
+unfoldable pub planJudged : Mode → (s plan : Bytes) → Outcome
+planJudged mode s plan =
     let table = conflictTable s in
-    planJudgedBy (probeCount s) (parentOf s) (entry table) (tab places (packetsOf s)) plan
+    planJudgedBy mode (probeCount s) (parentOf s) (entry table) (tab places (firstIn mode s)) plan
 
 -- "Numbers returned": the judge tests the sheet first; it answers number, place and slots, the last being 0 unless passed
-unfoldable pub judge : (s plan : Bytes) → Verdict
-judge s plan =
-    let outcome = sheetTest s then given 11 0 (ltb (length plan) 2) then planJudged s plan in
+unfoldable pub judgeIn : Mode → (s plan : Bytes) → Verdict
+judgeIn mode s plan =
+    let outcome = sheetTest s then given 11 0 (ltb (length plan) 2) then planJudged mode s plan in
     record { outcome = outcome; slots = cond (isAccepted outcome) (twoAt plan 0) 0 }
 
+abbrev pub judge : (s plan : Bytes) → Verdict
+judge s plan = judgeIn Packets s plan
+
 -- "Whom a refusal names": whom the number given names in the slot that the judge has come to, which is the refused one
-abbrev pub namesAt : (p : ℕ) → Relation → (plan : Bytes) → Judging → (number : ℕ) → Names
-namesAt p relation plan now number = slotNames p relation (now .held) (sendersAt plan (now .at)) number
+abbrev pub namesAt : Mode → (p : ℕ) → (parent : Node → Node) → Relation → (plan : Bytes) → Judging → (number : ℕ) → Names
+namesAt mode p parent relation plan now number = slotNames p relation (mayIn mode p parent (now .held)) (sendersAt plan (now .at)) number
 
-unfoldable pub planNamesBy : (p : ℕ) → (parent : Node → Node) → Relation → (packets : List ℕ) → (plan : Bytes) → (number : ℕ) → Names
-planNamesBy p parent relation packets plan number = namesAt p relation plan (slotsDone p parent relation packets plan) number
+unfoldable pub planNamesBy : Mode → (p : ℕ) → (parent : Node → Node) → Relation → (packets : List ℕ) → (plan : Bytes) → (number : ℕ) → Names
+planNamesBy mode p parent relation packets plan number = namesAt mode p parent relation plan (slotsDone mode p parent relation packets plan) number
 
-unfoldable pub planNames : (s plan : Bytes) → (number : ℕ) → Names
-planNames s plan number =
+unfoldable pub planNames : Mode → (s plan : Bytes) → (number : ℕ) → Names
+planNames mode s plan number =
     let table = conflictTable s in
-    planNamesBy (probeCount s) (parentOf s) (entry table) (tab places (packetsOf s)) plan number
+    planNamesBy mode (probeCount s) (parentOf s) (entry table) (tab places (firstIn mode s)) plan number
 
 -- "Numbers returned", "Whom a refusal names": the judge's whole answer; a refused sheet names nobody
-unfoldable pub judgement : (s plan : Bytes) → Judgement
-judgement s plan =
-    let verdict = judge s plan in
-    record { verdict = verdict; names = cond (isAccepted (sheetTest s)) (planNames s plan (verdict .outcome .number)) nobody }
+unfoldable pub judgementIn : Mode → (s plan : Bytes) → Judgement
+judgementIn mode s plan =
+    let verdict = judgeIn mode s plan in
+    record { verdict = verdict; names = cond (isAccepted (sheetTest s)) (planNames mode s plan (verdict .outcome .number)) nobody }
+
+abbrev pub judgement : (s plan : Bytes) → Judgement
+judgement s plan = judgementIn Packets s plan
 
 -- "Numbers returned": the chooser takes the passed one with fewer slots, the first when equal
 abbrev pub chooseBy : Verdict → Verdict → Choice

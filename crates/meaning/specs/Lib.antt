@@ -13,3 +13,4 @@ pub mod Book
 pub mod Telephone
 pub mod Legal
 pub mod Blame
+pub mod Merged

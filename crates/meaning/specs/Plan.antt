@@ -35,8 +35,8 @@ abbrev pub slotsOfPlan : (plan : Bytes) → Slots
 slotsOfPlan plan = slotsFrom plan 2 (twoAt plan 0)
 
 -- "The plan in bytes": the buffer that a planner wants, even where the plan turns out shorter
-abbrev pub roomFor : (hops : ℕ) → ℕ
-roomFor hops = 2 + 2 * hops
+abbrev pub roomFor : (sendings : ℕ) → ℕ
+roomFor sendings = 2 + 2 * sendings
 
 -- "The plan in bytes": room for any plan of ours, 2 + 2 × 30,240
 abbrev pub anyPlan : ℕ
@@ -45,6 +45,13 @@ anyPlan = 60482
 -- "Numbers returned": so many bytes of a plan, from anybody, decide its verdict
 abbrev pub decidingPlan : ℕ
 decidingPlan = 96032
+
+-- "Merged readings": room for any merged plan of ours, 2 + 2 × 63, and so many bytes of one, from anybody, decide its verdict
+abbrev pub anyMerged : ℕ
+anyMerged = 128
+
+abbrev pub decidingMerged : ℕ
+decidingMerged = 65855
 
 -- "The plan in bytes": a buffer after these bytes were written at its start; the bytes behind them stay
 abbrev pub front : (buffer bytes : Bytes) → Bytes

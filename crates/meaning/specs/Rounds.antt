@@ -1,10 +1,13 @@
--- RULES, "The two plans", after figures 3 and 5 of the paper.
+-- RULES, "The two plans", after figures 3 and 5 of the paper; and "Merged readings", for which only who may send and where it goes are read otherwise.
 use mathlib.Core.Bool.{Bool, false, true, cond, not, _&&_}
 use mathlib.Core.List.{List, [], _∷_, _++_}
 use Prim.Native.Nat.{ℕ, _+_, _-_}
 use lib.Dec.{eqb, ltb}
 use lib.ListN.{getD, set, replicate}
+use Rattle.meaning.specs.declared.Mode.{Mode}
+use Rattle.meaning.specs.declared.Mode.the-variants.{Packets, Merged}
 use Rattle.meaning.specs.Words.{Bytes, Node, Slots, Relation, forEach, whileBusy, some, eachProbe, someProbe, probesThat, tab, places, byNode}
+use Rattle.meaning.specs.Yard.{isProbe}
 use Rattle.meaning.specs.Sheet.{probeCount, parentOf, packetsOf, levelOf, hops}
 use Rattle.meaning.specs.Conflict.{entry, conflictTable}
 use Rattle.meaning.specs.Colour.{coloursUsed, probeColours, levelColours}
@@ -16,6 +19,38 @@ holds held v = ltb 0 (getD held v 0)
 -- "The two plans": some packet is outside the gateway
 abbrev pub outside : (p : ℕ) → (held : List ℕ) → Bool
 outside p held = someProbe p (holds held)
+
+-- "Merged readings": a probe that has not sent yet holds one reading, its own
+abbrev pub oneEach : (p : ℕ) → Node → ℕ
+oneEach p v = cond (isProbe p v) 1 0
+
+-- "Merged readings": some child of v has not sent yet
+abbrev pub waits : (p : ℕ) → (parent : Node → Node) → (held : List ℕ) → Node → Bool
+waits p parent held v = someProbe p (λ c. eqb (parent c) v && holds held c)
+
+-- "Merged readings": v is ready, which is 1 here, when it has not sent and all its children have
+unfoldable pub ready : (p : ℕ) → (parent : Node → Node) → (held : List ℕ) → List ℕ
+ready p parent held = tab places (λ v. cond (holds held v && not (waits p parent held v)) 1 0)
+
+-- "Merged readings": what each node may send of what it holds: every packet, or its reading where it is ready
+abbrev pub mayIn : Mode → (p : ℕ) → (parent : Node → Node) → (held : List ℕ) → List ℕ
+mayIn Packets p parent held = held
+mayIn Merged p parent held = ready p parent held
+
+-- "Merged readings": where it goes: a packet to the sender's parent; a reading that is sent is merged into the parent's, and is counted at the gateway
+abbrev pub goesIn : Mode → (parent : Node → Node) → Node → Node
+goesIn Packets parent = parent
+goesIn Merged parent = λ _. 1
+
+-- "Merged readings": what each probe holds before the first slot: its packets, or one reading, whatever its packets are
+abbrev pub firstIn : Mode → Bytes → Node → ℕ
+firstIn Packets s = packetsOf s
+firstIn Merged s = oneEach (probeCount s)
+
+-- "Merged readings": how many sendings bring everything in: the hops, or one a probe
+abbrev pub sendingsIn : Mode → Bytes → ℕ
+sendingsIn Packets s = hops s
+sendingsIn Merged s = probeCount s
 
 -- "The two plans": one chosen so far conflicts with v; chosen has a flag for each node
 abbrev pub clashes : Relation → (chosen : List Bool) → Node → Bool
@@ -63,54 +98,61 @@ unfoldable pub heldAfter : (parent : Node → Node) → (held : List ℕ) → Sl
 heldAfter parent held [] = held
 heldAfter parent held (slot ∷ slots) = heldAfter parent (moved parent slot held) slots
 
--- how far a plan has come: the packets that each node holds now, and the slots made so far
+-- how far a plan has come: what each node holds now, and the slots made so far
 pub record Progress : Type 0 where
   pub held : List ℕ
   pub slots : Slots
 
--- "The two plans": slots are recorded and their packets move
+-- "The two plans": slots are recorded and what their senders send moves
 unfoldable pub recorded : (parent : Node → Node) → Slots → Progress → Progress
 recorded parent slots now = record { held = heldAfter parent (now .held) slots; slots = now .slots ++ slots }
 
--- what a planner goes by: the probes, their parents, their conflicts, who may send by what is held, who of them owns the slot of a colour, the colours
+-- what a planner goes by: the probes, where what they send goes, their conflicts, what each may send of what it holds, who of those that may owns the slot of a colour, the colours
 pub record Way : Type 0 where
   pub probes : ℕ
   pub parent : Node → Node
   pub relation : Relation
-  pub may : (held : List ℕ) → Node → Bool
+  pub may : (held : List ℕ) → List ℕ
   pub owners : (s : ℕ) → (may : Node → Bool) → List Bool
   pub colours : ℕ
 
 -- "The two plans": what the turn of colour s makes
 abbrev pub turn : Way → (s : ℕ) → (held : List ℕ) → Slots
-turn way s held = turnOf (way .probes) (way .relation) (way .may held) (way .owners s (way .may held))
+turn way s held = turnOf (way .probes) (way .relation) (holds (way .may held)) (way .owners s (holds (way .may held)))
 
 -- "The two plans": a round, for each colour from 1 to M
 unfoldable pub round : Way → Progress → Progress
 round way start = forEach (way .colours) (λ s now. recorded (way .parent) (turn way (s + 1) (now .held)) now) start
 
--- "The two plans": while any packet is outside the gateway, a round
+-- "The two plans": while anything is outside the gateway, a round
 unfoldable pub rounds : Way → ℕ → Progress → Progress
 rounds way many start = whileBusy (λ now. outside (way .probes) (now .held)) (round way) many start
 
--- before the first round each probe holds its packets
+-- before the first round each probe holds what it has at first
 abbrev pub before : (packets : Node → ℕ) → Progress
 before packets = record { held = tab places packets; slots = [] }
 
--- "The two plans": the way by probe and the way by level
-unfoldable pub byProbe : Bytes → Way
-byProbe s =
+-- "The two plans": the way by probe; "Merged readings": it is made as before
+abbrev pub byProbeIn : Mode → Bytes → Way
+byProbeIn mode s =
     let table = conflictTable s in
     let colours = probeColours s in
     record {
       probes = probeCount s;
-      parent = parentOf s;
+      parent = goesIn mode (parentOf s);
       relation = entry table;
-      may = holds;
+      may = mayIn mode (probeCount s) (parentOf s);
       owners = ownersByProbe (byNode colours);
       colours = coloursUsed colours;
     }
 
+unfoldable pub byProbe : Bytes → Way
+byProbe s = byProbeIn Packets s
+
+unfoldable pub merged : Bytes → Way
+merged s = byProbeIn Merged s
+
+-- "The two plans": the way by level
 unfoldable pub byLevel : Bytes → Way
 byLevel s =
     let table = conflictTable s in
@@ -119,11 +161,14 @@ byLevel s =
       probes = probeCount s;
       parent = parentOf s;
       relation = entry table;
-      may = holds;
+      may = mayIn Packets (probeCount s) (parentOf s);
       owners = ownersByLevel (probeCount s) (entry table) (λ v. getD colours (levelOf s v) 0);
       colours = coloursUsed colours;
     }
 
--- "The two plans": the slots of a plan. A round makes at least one hop, so that the hops are rounds enough
-unfoldable pub slotsOf : (s : Bytes) → Way → Slots
-slotsOf s way = rounds way (hops s) (before (packetsOf s)) .slots
+-- "The two plans", "Merged readings": the slots of a plan. A round makes at least one sending, so that the sendings are rounds enough
+unfoldable pub slotsIn : Mode → (s : Bytes) → Way → Slots
+slotsIn mode s way = rounds way (sendingsIn mode s) (before (firstIn mode s)) .slots
+
+abbrev pub slotsOf : (s : Bytes) → Way → Slots
+slotsOf s way = slotsIn Packets s way

@@ -11,6 +11,12 @@ pub const ANY_PLAN: usize = 60482;
 // So many bytes of a plan, from anybody, decide its verdict and whom it names.
 pub const DECIDING_PLAN: usize = 96032;
 
+// Room for any merged plan of ours.
+pub const ANY_MERGED: usize = 128;
+
+// So many bytes of a merged plan, from anybody, decide its verdict and whom it names.
+pub const DECIDING_MERGED: usize = 65855;
+
 // Room for any wake book.
 pub const ANY_BOOK: usize = 119322;
 
@@ -108,6 +114,20 @@ pub struct Told {
     pub ours: u16,
     pub most: u16,
     pub times: u8,
+}
+
+// What a reading brings in: every packet of every probe, or one reading of each probe, merged on its way.
+pub enum Mode {
+    Packets,
+    Merged,
+}
+
+// What the telephone answers of merged readings; the last three are 0 on refusal.
+pub struct MergedTold {
+    pub outcome: Outcome,
+    pub least: u16,
+    pub ours: u16,
+    pub most: u16,
 }
 
 // Which of two plans the chooser hands back.

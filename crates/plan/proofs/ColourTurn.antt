@@ -1,4 +1,4 @@
--- A turn of a colour: each of its senders holds a packet and comes one hop nearer, so that its slot fits and the next turn can count on the same.
+-- A turn of a colour: each of its senders holds something and brings it one sending nearer, so that its slot fits and the next turn can count on the same.
 use mathlib.Core.Path.{_≡_, refl, sym, ap, ap₂, _∙_, subst}
 use mathlib.Core.Bool.{Bool, true, cond}
 use mathlib.Core.List.{List, [], _∷_}
@@ -19,75 +19,75 @@ use Rattle.laws.proofs.Moving.{weigh, Each, Rising, Sender, weigh-moved, weigh-
 use Rattle.laws.proofs.Slots.{each-slot, each-so, rising-slot}
 use Rattle.laws.proofs.Running.{each-at}
 use Rattle.laws.proofs.Recorded.{turn-makes, of-turn}
-use Rattle.laws.specs.Few.{atMost63}
 use Rattle.chosen.specs.TurnSlot.{turnSlots, turnBy, whole}
 use Rattle.chosen.proofs.Owners.{only-owners}
 use Rattle.chosen.proofs.Writing.{whole-fits}
 use Rattle.chosen.proofs.SlotWritten.{one-bytes, Wrote}
 use Rattle.plan.specs.ColourTurn.{Ready, Turned}
 
-module _ (p : ℕ) (parent : ℕ → ℕ) (held : List ℕ) (room : ℕ) (ready : Ready p parent held room) where
-  -- a probe that holds a packet can send
-  pub can-send : (k : ℕ) → k < p → holds held (k + 2) ≡ true → Sender parent held (k + 2)
-  can-send k h e = (ltb-true 0 (getD held (k + 2) 0) e, omega (arith, ready .small), ready .up k h .0)
+module _ (p : ℕ) (parent : ℕ → ℕ) (held : List ℕ) (room : ℕ) (ready : Ready p parent held room)
+    (may : List ℕ) (has : (v : ℕ) → holds may v ≡ true → holds held v ≡ true) where
+  -- a probe that may send can, since it holds something
+  can-send : (k : ℕ) → k < p → holds may (k + 2) ≡ true → Sender parent held (k + 2)
+  can-send k h e = (ltb-true 0 (getD held (k + 2) 0) (has (k + 2) e), omega (arith, ready .small), ready .up k h .0)
 
   module _ (relation : ℕ → ℕ → Bool) (own : ℕ → ℕ) (s : ℕ) where
     -- what the turn makes, and the slot that it is if there is one
     abbrev pub slots : List (List ℕ)
-    slots = turnSlots p relation own s held
+    slots = turnSlots p relation own s may
 
     abbrev pub slot : List ℕ
-    slot = slotOf p relation (holds held) (ownersByLevel p relation own s (holds held))
+    slot = slotOf p relation (holds may) (ownersByLevel p relation own s (holds may))
 
     pub makes : (slots ≡ []) ⊎ ((slots ≡ slot ∷ []) × (1 ≤ length slot))
     unfolding turnSlots
-    makes = turn-makes p relation (holds held) (ownersByLevel p relation own s (holds held))
+    makes = turn-makes p relation (holds may) (ownersByLevel p relation own s (holds may))
 
     either : (P : List (List ℕ) → Type 0) → P [] → (1 ≤ length slot → P (slot ∷ [])) → P slots
     unfolding turnSlots
-    either = of-turn p relation (holds held) (ownersByLevel p relation own s (holds held))
+    either = of-turn p relation (holds may) (ownersByLevel p relation own s (holds may))
 
-    each-turn : Each (λ v. (holds held v ≡ true) × (2 ≤ v) × (v < p + 2)) slot
-    each-turn = each-slot p relation (holds held) (ownersByLevel p relation own s (holds held)) (only-owners p relation own s (holds held))
+    each-turn : Each (λ v. (holds may v ≡ true) × (2 ≤ v) × (v < p + 2)) slot
+    each-turn = each-slot p relation (holds may) (ownersByLevel p relation own s (holds may)) (only-owners p relation own s (holds may))
 
-    by-number : (P : ℕ → Type 0) → ((k : ℕ) → k < p → holds held (k + 2) ≡ true → P (k + 2)) → Each P slot
+    by-number : (P : ℕ → Type 0) → ((k : ℕ) → k < p → holds may (k + 2) ≡ true → P (k + 2)) → Each P slot
     by-number P so =
-        each-so (λ v. (holds held v ≡ true) × (2 ≤ v) × (v < p + 2)) P slot
+        each-so (λ v. (holds may v ≡ true) × (2 ≤ v) × (v < p + 2)) P slot
         (λ v h.
         let here : v - 2 + 2 ≡ v = omega (arith, h .1) in
-        subst P here (so (v - 2) (omega (arith, h .1, h .2)) (subst (λ (j : ℕ). holds held j ≡ true) (sym here) (h .0))))
+        subst P here (so (v - 2) (omega (arith, h .1, h .2)) (subst (λ (j : ℕ). holds may j ≡ true) (sym here) (h .0))))
         each-turn
 
     pub turn-senders : Each (Sender parent held) slot
     turn-senders = by-number (Sender parent held) can-send
 
     pub turn-rising : Rising 1 slot
-    turn-rising = rising-slot p relation (holds held) (ownersByLevel p relation own s (holds held))
+    turn-rising = rising-slot p relation (holds may) (ownersByLevel p relation own s (holds may))
 
-    -- each sender comes one hop nearer
-    slot-hops : weigh (levelBy p parent) (moved parent slot held) + length slot ≡ weigh (levelBy p parent) held
-    slot-hops =
+    -- what each sender sends comes one sending nearer
+    slot-sent : weigh (levelBy p parent) (moved parent slot held) + length slot ≡ weigh (levelBy p parent) held
+    slot-sent =
         omega (
           arith,
           weigh-moved (levelBy p parent) parent 1 slot held (ready .long) turn-rising turn-senders,
           weigh-up (levelBy p parent) parent slot (by-number (λ v. levelBy p parent v ≡ suc (levelBy p parent (parent v))) (λ k h _. ready .up k h .1)),
         )
 
-    -- a turn makes no more slots than hops, and no more than two bytes a hop
-    pub turn-hops : length slots + weigh (levelBy p parent) (heldAfter parent held slots) ≤ weigh (levelBy p parent) held
+    -- a turn makes no more slots than sendings, and no more than two bytes a sending
+    pub turn-sent : length slots + weigh (levelBy p parent) (heldAfter parent held slots) ≤ weigh (levelBy p parent) held
     unfolding heldAfter
-    turn-hops =
+    turn-sent =
         either (λ l. length l + weigh (levelBy p parent) (heldAfter parent held l) ≤ weigh (levelBy p parent) held) (omega arith)
-        (λ sends. omega (arith, slot-hops))
+        (λ sends. omega (arith, slot-sent))
 
-    two-a-hop : length (slotBytes slots) + 2 * weigh (levelBy p parent) (heldAfter parent held slots) ≤ 2 * weigh (levelBy p parent) held
+    two-a-sending : length (slotBytes slots) + 2 * weigh (levelBy p parent) (heldAfter parent held slots) ≤ 2 * weigh (levelBy p parent) held
     unfolding heldAfter slotBytes
-    two-a-hop =
+    two-a-sending =
         either (λ l. length (slotBytes l) + 2 * weigh (levelBy p parent) (heldAfter parent held l) ≤ 2 * weigh (levelBy p parent) held) (omega arith)
-        (λ sends. omega (arith, slot-hops, ap length (one-bytes slot)))
+        (λ sends. omega (arith, slot-sent, ap length (one-bytes slot)))
 
     pub turn-bytes : length (slotBytes slots) ≤ room
-    turn-bytes = omega (arith, two-a-hop, ready .fits)
+    turn-bytes = omega (arith, two-a-sending, ready .fits)
 
     -- a turn makes a slot exactly where it takes bytes
     pub turn-count : length slots ≡ cond (eqb (length (slotBytes slots)) 0) 0 1
@@ -115,26 +115,25 @@ module _ (p : ℕ) (parent : ℕ → ℕ) (held : List ℕ) (room : ℕ) (ready 
                 ready .few,
               );
           up = ready .up;
-          fits = omega (arith, two-a-hop, ready .fits);
+          fits = omega (arith, two-a-sending, ready .fits);
         }
 
 -- the turn of colour s, once its slot is written
-module _ (p : ℕ) (parent : ℕ → ℕ) (table : List (List Bool)) (own : List ℕ) (s : ℕ) (held rest : List ℕ) (ready : Ready p parent held (length rest))
-    (rest′ : List ℕ) (bytes : ℕ) (w : Wrote (turnBy (atMost63 p) table own s held) rest rest′ bytes) where
+module _ (p : ℕ) (parent : ℕ → ℕ) (held rest : List ℕ) (ready : Ready p parent held (length rest))
+    (may : List ℕ) (has : (v : ℕ) → holds may v ≡ true → holds held v ≡ true) (table : List (List Bool)) (own : List ℕ) (s : ℕ)
+    (rest′ : List ℕ) (bytes : ℕ) (w : Wrote (turnBy p table own s may) rest rest′ bytes) where
   abbrev its : List (List ℕ)
-  its = turnBy p table own s held
+  its = turnBy p table own s may
 
   abbrev one : List ℕ
-  one = slot p parent held (length rest) ready (entry table) (byNode own) s
+  one = slot p parent held (length rest) ready may has (entry table) (byNode own) s
 
   room : length (slotBytes its) ≤ length rest
-  room = turn-bytes p parent held (length rest) ready (entry table) (byNode own) s
+  room = turn-bytes p parent held (length rest) ready may has (entry table) (byNode own) s
 
   -- there is room for all of it
-  all-in : whole rest (slotBytes (turnBy (atMost63 p) table own s held)) ≡ slotBytes its
-  all-in =
-      let small : atMost63 p ≡ p = omega (arith, ready .small) in
-      ap (λ (n : ℕ). whole rest (slotBytes (turnBy n table own s held))) small ∙ whole-fits rest (slotBytes its) room
+  all-in : whole rest (slotBytes its) ≡ slotBytes its
+  all-in = whole-fits rest (slotBytes its) room
 
   counted : bytes ≡ length (slotBytes its)
   counted = w .0 ∙ ap length all-in
@@ -152,7 +151,7 @@ module _ (p : ℕ) (parent : ℕ → ℕ) (table : List (List Bool)) (own : List
       record {
         moves =
             ⊎-elim (λ none. sym (ap (heldAfter parent held) none)) (λ made. absurd (omega (arith, e, counted, ap length (ap slotBytes (made .0) ∙ one-bytes one))))
-            (makes p parent held (length rest) ready (entry table) (byNode own) s);
+            (makes p parent held (length rest) ready may has (entry table) (byNode own) s);
         counted = sym e ∙ counted;
         wrote = wrote;
       }
@@ -166,7 +165,7 @@ module _ (p : ℕ) (parent : ℕ → ℕ) (table : List (List Bool)) (own : List
     unfolding slotBytes
     is-one =
         ⊎-elim (λ none. absurd (some (counted ∙ ap (λ (l : List (List ℕ)). length (slotBytes l)) none))) (λ made. made .0)
-        (makes p parent held (length rest) ready (entry table) (byNode own) s)
+        (makes p parent held (length rest) ready may has (entry table) (byNode own) s)
 
     slot-lent : lent ≡ one
     slot-lent =
@@ -179,8 +178,8 @@ module _ (p : ℕ) (parent : ℕ → ℕ) (table : List (List Bool)) (own : List
     pub may-move : Rising 1 lent × ((i : ℕ) → i < length lent → Sender parent held (getD lent i 0))
     may-move =
         subst (λ (l : List ℕ). Rising 1 l × ((i : ℕ) → i < length l → Sender parent held (getD l i 0))) (sym slot-lent) (
-          turn-rising p parent held (length rest) ready (entry table) (byNode own) s,
-          each-at (Sender parent held) one (turn-senders p parent held (length rest) ready (entry table) (byNode own) s),
+          turn-rising p parent held (length rest) ready may has (entry table) (byNode own) s,
+          each-at (Sender parent held) one (turn-senders p parent held (length rest) ready may has (entry table) (byNode own) s),
         )
 
     pub turned-slot : (held′ : List ℕ) → held′ ≡ moved parent lent held → Turned parent its held held′ rest rest′ bytes

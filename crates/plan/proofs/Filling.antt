@@ -1,4 +1,4 @@
--- The whole plan: never more slots than hops, and its number in front of its slots.
+-- The whole plan: never more slots than sendings, and its number in front of its slots.
 use mathlib.Core.Path.{_≡_, ap, ap₂, _∙_}
 use mathlib.Core.Bool.{Bool, true, false, cond}
 use mathlib.Core.List.{List, [], _∷_}
@@ -7,26 +7,28 @@ use native.Mathlib.Nat.{not-suc-le-zero, le-of-suc-le-suc}
 use native.Mathlib.Omega.{arith}
 use borrow.Rule.Slice.PartMut.{putMid}
 use lib.ListN.{length, drop, set, length-append}
+use Rattle.meaning.specs.declared.Mode.{Mode}
 use Rattle.meaning.specs.Words.{byNode}
 use Rattle.meaning.specs.Yard.{levelBy}
 use Rattle.meaning.specs.Plan.{front, slotBytes}
-use Rattle.meaning.specs.Rounds.{Progress, Way, outside, heldAfter, recorded, turn, round, rounds}
+use Rattle.meaning.specs.Rounds.{Progress, Way, holds, outside, heldAfter, recorded, turn, round, rounds}
 use Rattle.laws.proofs.Turns.{forEach-keeps}
 use Rattle.laws.proofs.Moving.{weigh}
+use Rattle.laws.proofs.Modes.{may-holds}
 use Rattle.chosen.specs.TurnSlot.{turnSlots}
 use Rattle.plan.specs.ColourTurn.{Ready}
 use Rattle.plan.specs.TurnByTurn.{wayBy, from, slotsBy, Going, Filled}
-use Rattle.plan.proofs.ColourTurn.{ready-next, turn-hops}
+use Rattle.plan.proofs.ColourTurn.{ready-next, turn-sent}
 use Rattle.plan.proofs.TurnByTurn.{put-behind}
 
-module _ (p : ℕ) (parents : List ℕ) (table : List (List Bool)) (own : List ℕ) (m : ℕ) where
+module _ (mode : Mode) (p : ℕ) (parents : List ℕ) (table : List (List Bool)) (own : List ℕ) (m : ℕ) where
   abbrev way : Way
-  way = wayBy p parents table own m
+  way = wayBy mode p parents table own m
 
   abbrev energy : List ℕ → ℕ
   energy held = weigh (levelBy p (way .parent)) held
 
-  -- a yard to plan, with `all` hops to make: each slot made has taken one of them at least
+  -- a yard to plan, with `all` sendings to make: each slot made has taken one of them at least
   record Spent (all : ℕ) (now : Progress) : Type 0 where
     ready : Ready p (way .parent) (now .held) (2 * energy (now .held))
     fewer : length (now .slots) + energy (now .held) ≤ all
@@ -40,18 +42,21 @@ module _ (p : ℕ) (parents : List ℕ) (table : List (List Bool)) (own : List �
       record {
         ready =
             ready-own (heldAfter (way .parent) (now .held) made) _
-            (ready-next p (way .parent) (now .held) (2 * energy (now .held)) (spent .ready) (way .relation) (byNode own) s);
+            (ready-next p (way .parent) (now .held) (2 * energy (now .held)) (spent .ready) (way .may (now .held)) has (way .relation) (byNode own) s);
         fewer =
             omega (
               arith,
               spent .fewer,
               length-append (now .slots) made,
-              turn-hops p (way .parent) (now .held) (2 * energy (now .held)) (spent .ready) (way .relation) (byNode own) s,
+              turn-sent p (way .parent) (now .held) (2 * energy (now .held)) (spent .ready) (way .may (now .held)) has (way .relation) (byNode own) s,
             );
       }
     where
       made : List (List ℕ)
       made = turn way s (now .held)
+
+      has : (v : ℕ) → holds (way .may (now .held)) v ≡ true → holds (now .held) v ≡ true
+      has = may-holds mode p (byNode parents) (now .held)
 
   spent-round : (all : ℕ) (now : Progress) → Spent all now → Spent all (round way now)
   unfolding round
@@ -59,19 +64,19 @@ module _ (p : ℕ) (parents : List ℕ) (table : List (List Bool)) (own : List �
       forEach-keeps (Spent all) m (λ s then. recorded (way .parent) (turn way (s + 1) (then .held)) then) now spent
       (λ s _ then h. spent-turn all (s + 1) then h)
 
-  -- a plan has no more slots than hops
-  pub slots-most : (packets : List ℕ) (room hops : ℕ) → Ready p (way .parent) packets room → length (slotsBy p parents table own m hops packets) ≤ energy packets
+  -- a plan has no more slots than sendings
+  pub slots-most : (held : List ℕ) (room sendings : ℕ) → Ready p (way .parent) held room → length (slotsBy mode p parents table own m sendings held) ≤ energy held
   unfolding rounds
-  slots-most packets room hops ready =
+  slots-most held room sendings ready =
       omega (
         arith,
-        forEach-keeps (Spent (energy packets)) hops (λ _ now. cond (outside p (now .held)) (round way now) now) (from packets)
-            (record { ready = ready-own packets room ready; fewer = omega arith })
+        forEach-keeps (Spent (energy held)) sendings (λ _ now. cond (outside p (now .held)) (round way now) now) (from held)
+            (record { ready = ready-own held room ready; fewer = omega arith })
             (λ _ _ now h. go (outside p (now .held)) now h) .fewer,
       )
     where
-      go : (b : Bool) (now : Progress) → Spent (energy packets) now → Spent (energy packets) (cond b (round way now) now)
-      go true now h = spent-round (energy packets) now h
+      go : (b : Bool) (now : Progress) → Spent (energy held) now → Spent (energy held) (cond b (round way now) now)
+      go true now h = spent-round (energy held) now h
       go false now h = h
 
 -- the number of slots, in two bytes, in front of them

@@ -6,16 +6,16 @@ use Prim.Native.Nat.{ℕ, _+_}
 use Rattle.meaning.specs.Rounds.{Progress, Way, holds, outside, turnOf, recorded, round, rounds}
 use Rattle.laws.proofs.Turns.{forEach-same}
 
-module _ (p : ℕ) (parent : ℕ → ℕ) (relation : ℕ → ℕ → Bool) (m : ℕ) where
+module _ (p : ℕ) (parent : ℕ → ℕ) (relation : ℕ → ℕ → Bool) (may : List ℕ → List ℕ) (m : ℕ) where
   abbrev pub wayOf : (ℕ → (ℕ → Bool) → List Bool) → Way
-  wayOf owners = record { probes = p; parent = parent; relation = relation; may = holds; owners = owners; colours = m }
+  wayOf owners = record { probes = p; parent = parent; relation = relation; may = may; owners = owners; colours = m }
 
-  module _ (a b : ℕ → (ℕ → Bool) → List Bool) (same : (s : ℕ) (may : ℕ → Bool) → a (s + 1) may ≡ b (s + 1) may) where
+  module _ (a b : ℕ → (ℕ → Bool) → List Bool) (same : (s : ℕ) (who : ℕ → Bool) → a (s + 1) who ≡ b (s + 1) who) where
     round-same : (now : Progress) → round (wayOf a) now ≡ round (wayOf b) now
     unfolding round
     round-same now =
         forEach-same m _ _ now
-        (λ s _ then. ap (λ (owners : List Bool). recorded parent (turnOf p relation (holds (then .held)) owners) then) (same s (holds (then .held))))
+        (λ s _ then. ap (λ (owners : List Bool). recorded parent (turnOf p relation (holds (may (then .held))) owners) then) (same s (holds (may (then .held)))))
 
     -- the same owners, the same plan
     pub rounds-same : (n : ℕ) (start : Progress) → rounds (wayOf a) n start ≡ rounds (wayOf b) n start

@@ -8,12 +8,14 @@ use lib.Dec.{eqb}
 use lib.ListN.{length, take, drop, length-append, length-drop, drop-of-length-le}
 use borrow.Rule.Slice.PartMut.{putMid}
 use lib.Seq.{take-all, take-at, drop-at, drop-drop}
+use Rattle.meaning.specs.declared.Mode.{Mode}
 use Rattle.meaning.specs.Words.{forEach, byNode}
 use Rattle.meaning.specs.Plan.{front, slotBytes}
-use Rattle.meaning.specs.Rounds.{Progress, Way, heldAfter, recorded, turn, round, rounds, outside}
+use Rattle.meaning.specs.Rounds.{Progress, Way, holds, heldAfter, recorded, turn, round, rounds, outside}
 use Rattle.laws.proofs.Turns.{forEach-one, forEach-stays}
 use Rattle.laws.proofs.Lists.{length-front}
 use Rattle.laws.proofs.Exact.{slot-bytes-append}
+use Rattle.laws.proofs.Modes.{may-holds}
 use Rattle.chosen.specs.TurnSlot.{turnSlots, turnBy}
 use Rattle.plan.specs.ColourTurn.{Ready, Turned}
 use Rattle.plan.specs.TurnByTurn.{wayBy, from, Going}
@@ -41,12 +43,16 @@ put-behind l part at h =
     let none : drop (length l - at) (drop at l) ≡ [] = drop-of-length-le (drop at l) {i = length l - at} (rw (length-drop at l) (omega arith)) in
     ap (λ (r : List ℕ). take at l ++ (part ++ r)) none ∙ ap (λ (r : List ℕ). take at l ++ r) (append-nil part)
 
-module _ (p : ℕ) (parents : List ℕ) (table : List (List Bool)) (own : List ℕ) (m : ℕ) where
-  abbrev parent : ℕ → ℕ
-  parent = byNode parents
-
+module _ (mode : Mode) (p : ℕ) (parents : List ℕ) (table : List (List Bool)) (own : List ℕ) (m : ℕ) where
   abbrev way : Way
-  way = wayBy p parents table own m
+  way = wayBy mode p parents table own m
+
+  abbrev parent : ℕ → ℕ
+  parent = way .parent
+
+  -- who may send holds something
+  has : (held : List ℕ) (v : ℕ) → holds (way .may held) v ≡ true → holds held v ≡ true
+  has = may-holds mode p (byNode parents)
 
   -- the first k turns of a round
   unfoldable pub turns : ℕ → List ℕ → Progress
@@ -58,7 +64,7 @@ module _ (p : ℕ) (parents : List ℕ) (table : List (List Bool)) (own : List �
 
   -- what the turn that follows them makes
   abbrev nextTurn : ℕ → List ℕ → List (List ℕ)
-  nextTurn k held = turnBy p table own (k + 1) (turns k held .held)
+  nextTurn k held = turnBy p table own (k + 1) (way .may (turns k held .held))
 
   turns-next : (k : ℕ) (held : List ℕ) → turns (k + 1) held
       ≡ record { held = heldAfter parent (turns k held .held) (nextTurn k held); slots = turns k held .slots ++ nextTurn k held }
@@ -81,7 +87,7 @@ module _ (p : ℕ) (parents : List ℕ) (table : List (List Bool)) (own : List �
   -- one more turn, whose slot is written into the part from `at` on
   pub going-next : (k : ℕ) (held₀ held rest₀ rest : List ℕ) (at slots : ℕ) → Going p parent (turns k held₀) held rest₀ rest at slots
       → (held′ part : List ℕ) (bytes : ℕ)
-      → Turned parent (turnBy p table own (k + 1) held) held held′ (take (length rest - at) (drop at rest)) part bytes
+      → Turned parent (turnBy p table own (k + 1) (way .may held)) held held′ (take (length rest - at) (drop at rest)) part bytes
       → (more : ℕ) → more ≡ cond (eqb bytes 0) 0 1
       → Going p parent (turns (k + 1) held₀) held′ rest₀ (putMid at (length rest - at) rest part) (at + bytes) (slots + more)
   going-next k held₀ held rest₀ rest at slots now held′ part bytes lent more count =
@@ -102,18 +108,23 @@ module _ (p : ℕ) (parents : List ℕ) (table : List (List Bool)) (own : List �
             ∙ front-front rest₀ (slotBytes done) (slotBytes (makes before)) at (now .counted)
             ∙ ap (front rest₀) (sym (slot-bytes-append done (makes before)));
         within =
-            omega (arith, now .within, turned .counted, turn-bytes p parent held (length rest₀ - at) (now .ready) (way .relation) (byNode own) (k + 1));
+            omega (
+              arith,
+              now .within,
+              turned .counted,
+              turn-bytes p parent held (length rest₀ - at) (now .ready) (way .may held) (has held) (way .relation) (byNode own) (k + 1),
+            );
         fewer =
             omega (
               arith,
               now .fewer,
               turned .counted,
               one-more,
-              turn-fewer p parent held (length rest₀ - at) (now .ready) (way .relation) (byNode own) (k + 1),
+              turn-fewer p parent held (length rest₀ - at) (now .ready) (way .may held) (has held) (way .relation) (byNode own) (k + 1),
             );
         ready =
             subst₂ (λ (h : List ℕ) (r : ℕ). Ready p parent h r) (sym (turned .moves)) room
-            (ready-next p parent held (length rest₀ - at) (now .ready) (way .relation) (byNode own) (k + 1));
+            (ready-next p parent held (length rest₀ - at) (now .ready) (way .may held) (has held) (way .relation) (byNode own) (k + 1));
       })
     where
       before : List ℕ
@@ -123,7 +134,7 @@ module _ (p : ℕ) (parents : List ℕ) (table : List (List Bool)) (own : List �
       done = turns k held₀ .slots
 
       makes : List ℕ → List (List ℕ)
-      makes h = turnBy p table own (k + 1) h
+      makes h = turnBy p table own (k + 1) (way .may h)
 
       turned : Turned parent (makes held) held held′ (drop at rest) part bytes
       turned = subst (λ (from′ : List ℕ). Turned parent (makes held) held held′ from′ part bytes) (part-from rest at) lent
@@ -131,7 +142,7 @@ module _ (p : ℕ) (parents : List ℕ) (table : List (List Bool)) (own : List �
       one-more : more ≡ length (makes held)
       one-more =
           count ∙ ap (λ (b : ℕ). cond (eqb b 0) 0 1) (turned .counted)
-          ∙ sym (turn-count p parent held (length rest₀ - at) (now .ready) (way .relation) (byNode own) (k + 1))
+          ∙ sym (turn-count p parent held (length rest₀ - at) (now .ready) (way .may held) (has held) (way .relation) (byNode own) (k + 1))
 
       room : (length rest₀ - at) - length (slotBytes (makes held)) ≡ length rest₀ - (at + bytes)
       room = omega (arith, turned .counted)
@@ -188,17 +199,17 @@ going-behind p parent now then held rest₀ rest at slots first held′ part byt
     left : length (drop at rest) ≡ length rest₀ - at
     left = length-drop at rest ∙ ap (λ (n : ℕ). n - at) (going-long first)
 
--- rounds, while any packet is outside the gateway
-module _ (p : ℕ) (parents : List ℕ) (table : List (List Bool)) (own : List ℕ) (m : ℕ) where
+-- rounds, while anything is outside the gateway
+module _ (mode : Mode) (p : ℕ) (parents : List ℕ) (table : List (List Bool)) (own : List ℕ) (m : ℕ) where
   abbrev road : Way
-  road = wayBy p parents table own m
+  road = wayBy mode p parents table own m
 
   step : ℕ → Progress → Progress
   step _ now = cond (outside p (now .held)) (round road now) now
 
   pub rounds-start : (held rest : List ℕ) → Ready p (road .parent) held (length rest) → Going p (road .parent) (rounds road 0 (from held)) held rest rest 0 0
   unfolding rounds forEach turns
-  rounds-start held rest ready = going-start p parents table own m held rest ready
+  rounds-start held rest ready = going-start mode p parents table own m held rest ready
 
   -- with nothing outside, the rounds that are left change nothing
   pub rounds-stop : (r n : ℕ) (held : List ℕ) → r ≤ n → outside p (rounds road r (from held) .held) ≡ false

@@ -9,7 +9,7 @@ use Rattle.meaning.specs.Yard.{levelBy}
 use Rattle.meaning.specs.Rounds.{heldAfter}
 use Rattle.laws.proofs.Moving.{weigh}
 
--- what a turn may count on: a yard whose probes stand one level above their parents, few packets, and room for two bytes a hop
+-- what a turn may count on: a yard in which what a probe sends goes to a node one level lower, few packets or readings, and room for two bytes a sending
 pub record Ready (p : ℕ) (parent : ℕ → ℕ) (held : List ℕ) (room : ℕ) : Type 0 where
   pub small : p ≤ 63
   pub long : length held ≡ 65
@@ -17,7 +17,7 @@ pub record Ready (p : ℕ) (parent : ℕ → ℕ) (held : List ℕ) (room : ℕ)
   pub up : (k : ℕ) → k < p → (parent (k + 2) < 65) × (levelBy p parent (k + 2) ≡ suc (levelBy p parent (parent (k + 2))))
   pub fits : 2 * weigh (levelBy p parent) held ≤ room
 
--- after a turn: its packets have moved, and its slot, if any, stands at the start of the rest
+-- after a turn: what its senders send has moved, and its slot, if any, stands at the start of the rest
 pub record Turned (parent : ℕ → ℕ) (slots : Slots) (held held′ rest rest′ : List ℕ) (bytes : ℕ) : Type 0 where
   pub moves : held′ ≡ heldAfter parent held slots
   pub counted : bytes ≡ length (slotBytes slots)

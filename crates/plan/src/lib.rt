@@ -1,20 +1,19 @@
-// The two planners: a sheet and a lent buffer in, the plan or a numbered refusal out.
+// The planners of packets, by probe and by level, and of merged readings: a sheet and a lent buffer in, the plan or a numbered refusal out.
 ghost use mathlib.Core.Path.{_≡_};
 ghost use mathlib.Core.Bool.{cond};
-ghost use Prim.Native.Nat.{_-_, _≤_, _<_};
+ghost use Prim.Native.Nat.{_≤_};
 ghost use lib.Dec.{eqb, ltb};
 ghost use lib.ListN.{length, getD};
 ghost use Rattle.meaning.specs.Words.{tab, places, byNode};
 ghost use Rattle.meaning.specs.Plan.{roomFor, front};
-ghost use Rattle.meaning.specs.Answer.{given, _then_, planMade};
-ghost use Rattle.meaning.specs.Rounds.{rounds, byProbe, byLevel};
-ghost use Rattle.laws.proofs.Moving.{weigh};
-ghost use Rattle.chosen.specs.TurnSlot.{turnBy};
+ghost use Rattle.meaning.specs.Answer.{given, _then_, planMadeIn, planMade, mergedMade};
+ghost use Rattle.meaning.specs.Rounds.{mayIn, goesIn, rounds, byProbeIn, byProbe, byLevel};
+ghost use Rattle.chosen.specs.TurnSlot.{turnBy, turnLength, turnIn};
 ghost use Rattle.plan.specs.ColourTurn.{Ready, Turned};
-ghost use Rattle.plan.specs.TurnByTurn.{wayBy, from, roundOf, Going, slotsBy, Filled};
-ghost use Rattle.plan.specs.Answered.{prepared, Finished};
-ghost use Rattle.meaning.specs.Yard.{levelBy};
+ghost use Rattle.plan.specs.TurnByTurn.{wayBy, from, roundOf, Going, heldBy, sendingsBy, slotsBy, ToFill, Filled};
+ghost use Rattle.plan.specs.Answered.{prepared, slotsOn, Finished};
 use meaning::Colour;
+use meaning::Mode;
 use meaning::Outcome;
 use meaning::Planned;
 use sheet::Tree;
@@ -25,8 +24,35 @@ struct Made {
     slots: usize,
 }
 
-// The turn of colour s: writes its slot at the start of the rest and moves its packets; says how many bytes it took, 0 where there is no slot.
+// Writes the slot of colour s at the start of the rest: of those that hold a packet, or of those that are ready.
+fn write_turn(
+    mode: Mode,
+    p: u8,
+    parents: &[u8; 65],
+    table: &[[bool; 65]; 65],
+    own: &[u8; 65],
+    s: Colour,
+    held: &[u16; 65],
+    rest: &mut [u8],
+) -> usize
+    requires { ⌜ p ≤ 63 ⌝ }
+    ensures answer { λ r. ⌜ r ≡ turnLength (now (rest .entry))
+        (turnBy p (now (table .entry)) (now (own .entry)) (s .0) (mayIn mode p (byNode (now (parents .entry))) (now (held .entry)))) ⌝ }
+    ensures rest { λ _. ⌜ now (rest .exit) ≡ turnIn (now (rest .entry))
+        (turnBy p (now (table .entry)) (now (own .entry)) (s .0) (mayIn mode p (byNode (now (parents .entry))) (now (held .entry)))) ⌝ }
+{
+    match mode {
+        Mode::Packets => chosen::write_slot(rest, p, table, own, s, held),
+        Mode::Merged => {
+            let ready = sending::ready(p, parents, held);
+            chosen::write_slot(rest, p, table, own, s, &ready)
+        }
+    }
+}
+
+// The turn of colour s: writes its slot at the start of the rest and sends it; says how many bytes it took, 0 where there is no slot.
 fn turn(
+    mode: Mode,
     p: u8,
     parents: &[u8; 65],
     table: &[[bool; 65]; 65],
@@ -35,15 +61,16 @@ fn turn(
     held: &mut [u16; 65],
     rest: &mut [u8],
 ) -> usize
-    requires { ⌜ Ready p (byNode (now parents)) (now held) (length (now rest)) ⌝ }
-    ensures { λ r. ⌜ Turned (byNode (now (parents .entry))) (turnBy p (now (table .entry)) (now (own .entry)) (s .0) (now (held .entry)))
+    requires { ⌜ Ready p (goesIn mode (byNode (now parents))) (now held) (length (now rest)) ⌝ }
+    ensures { λ r. ⌜ Turned (goesIn mode (byNode (now (parents .entry))))
+        (turnBy p (now (table .entry)) (now (own .entry)) (s .0) (mayIn mode p (byNode (now (parents .entry))) (now (held .entry))))
         (now (held .entry)) (now (held .exit)) (now (rest .entry)) (now (rest .exit)) r ⌝ }
 {
-    let bytes = chosen::write_slot(rest, p, table, own, s, held);
+    let bytes = write_turn(mode, p, parents, table, own, s, held, rest);
     if bytes == 0 {
         return 0;
     }
-    slot::move_packets(parents, &rest[1..bytes], held);
+    sending::send(mode, parents, &rest[1..bytes], held);
     bytes
 }
 
@@ -59,6 +86,7 @@ fn slots_in(bytes: usize) -> usize
 
 // A round: the turn of each colour from 1 to m, each slot into the rest that begins where the last ended.
 fn round(
+    mode: Mode,
     p: u8,
     parents: &[u8; 65],
     table: &[[bool; 65]; 65],
@@ -67,16 +95,25 @@ fn round(
     held: &mut [u16; 65],
     rest: &mut [u8],
 ) -> Made
-    requires { ⌜ Ready p (byNode (now parents)) (now held) (length (now rest)) ⌝ }
-    ensures { λ r. ⌜ Going p (byNode (now (parents .entry)))
-        (roundOf p (now (parents .entry)) (now (table .entry)) (now (own .entry)) m (now (held .entry)))
+    requires { ⌜ Ready p (goesIn mode (byNode (now parents))) (now held) (length (now rest)) ⌝ }
+    ensures { λ r. ⌜ Going p (goesIn mode (byNode (now (parents .entry))))
+        (roundOf mode p (now (parents .entry)) (now (table .entry)) (now (own .entry)) m (now (held .entry)))
         (now (held .exit)) (now (rest .entry)) (now (rest .exit)) (r .bytes) (r .slots) ⌝ }
 {
     let mut at: usize = 0;
     let mut slots: usize = 0;
     let mut s: u8 = 0;
     while s < m {
-        let bytes = turn(p, parents, table, own, Colour(s + 1), held, &mut rest[at..]);
+        let bytes = turn(
+            mode,
+            p,
+            parents,
+            table,
+            own,
+            Colour(s + 1),
+            held,
+            &mut rest[at..],
+        );
         at += bytes;
         slots += slots_in(bytes);
         s += 1;
@@ -84,30 +121,31 @@ fn round(
     Made { bytes: at, slots }
 }
 
-// Rounds while any packet is outside the gateway, as many as hops at most.
+// Rounds while anything is outside the gateway, as many as sendings at most.
 fn run(
+    mode: Mode,
     p: u8,
     parents: &[u8; 65],
     table: &[[bool; 65]; 65],
     own: &[u8; 65],
     m: u8,
-    hops: u32,
+    sendings: u32,
     held: &mut [u16; 65],
     rest: &mut [u8],
 ) -> Made
-    requires { ⌜ Ready p (byNode (now parents)) (now held) (length (now rest)) ⌝ }
-    ensures { λ r. ⌜ Going p (byNode (now (parents .entry)))
-        (rounds (wayBy p (now (parents .entry)) (now (table .entry)) (now (own .entry)) m) hops (from (now (held .entry))))
+    requires { ⌜ Ready p (goesIn mode (byNode (now parents))) (now held) (length (now rest)) ⌝ }
+    ensures { λ r. ⌜ Going p (goesIn mode (byNode (now (parents .entry))))
+        (rounds (wayBy mode p (now (parents .entry)) (now (table .entry)) (now (own .entry)) m) sendings (from (now (held .entry))))
         (now (held .exit)) (now (rest .entry)) (now (rest .exit)) (r .bytes) (r .slots) ⌝ }
 {
     let mut at: usize = 0;
     let mut slots: usize = 0;
     let mut r: u32 = 0;
-    while r < hops {
+    while r < sendings {
         if !slot::any_outside(p, held) {
             return Made { bytes: at, slots };
         }
-        let more = round(p, parents, table, own, m, held, &mut rest[at..]);
+        let more = round(mode, p, parents, table, own, m, held, &mut rest[at..]);
         at += more.bytes;
         slots += more.slots;
         r += 1;
@@ -115,42 +153,59 @@ fn run(
     Made { bytes: at, slots }
 }
 
+// How many sendings bring everything in: the hops, or one a probe.
+fn sendings_in(mode: Mode, p: u8, hops: u32) -> u32
+    ensures { λ r. ⌜ r ≡ sendingsBy mode p hops ⌝ }
+{
+    match mode {
+        Mode::Packets => hops,
+        Mode::Merged => p as u32,
+    }
+}
+
 // Writes the plan: its slots behind two bytes, and then their number into those.
 fn fill(
+    mode: Mode,
     p: u8,
     parents: [u8; 65],
     packets: [u8; 65],
     table: [[bool; 65]; 65],
     own: [u8; 65],
     m: u8,
-    hops: u32,
+    sendings: u32,
     buf: &mut [u8],
 ) -> Made
-    requires two { ⌜ 2 ≤ length (now buf) ⌝ }
-    requires ready { ⌜ Ready p (byNode parents) packets (length (now buf) - 2) ⌝ }
-    requires few { ⌜ weigh (levelBy p (byNode parents)) packets ≤ 65535 ⌝ }
-    ensures { λ r. ⌜ Filled (slotsBy p parents table own m hops packets) (now (buf .entry)) (now (buf .exit)) (r .bytes) (r .slots) ⌝ }
+    requires { ⌜ ToFill mode p parents packets (length (now buf)) ⌝ }
+    ensures { λ r. ⌜ Filled (slotsBy mode p parents table own m sendings (heldBy mode p packets)) (now (buf .entry)) (now (buf .exit)) (r .bytes) (r .slots) ⌝ }
 {
-    let mut held = slot::wide(packets);
-    let made = run(p, &parents, &table, &own, m, hops, &mut held, &mut buf[2..]);
+    let mut held = sending::first_held(mode, p, packets);
+    let made = run(
+        mode,
+        p,
+        &parents,
+        &table,
+        &own,
+        m,
+        sendings,
+        &mut held,
+        &mut buf[2..],
+    );
     let bytes = made.bytes;
     let slots = made.slots;
     buf[0] = (slots / 256 % 256) as u8;
     buf[1] = (slots % 256) as u8;
-    Made {
-        bytes: bytes + 2,
-        slots,
-    }
+    let end = bytes + 2;
+    Made { bytes: end, slots }
 }
 
 // The room is tested where the sheet has passed.
-fn room_test(outcome: Outcome, room: usize, hops: u32) -> Outcome
-    ensures { λ r. ⌜ r ≡ (outcome then given 9 0 (ltb room (roomFor hops))) ⌝ }
+fn room_test(outcome: Outcome, room: usize, sendings: u32) -> Outcome
+    ensures { λ r. ⌜ r ≡ (outcome then given 9 0 (ltb room (roomFor sendings))) ⌝ }
 {
     if outcome.number != 0 {
         return outcome;
     }
-    if room < 2 + 2 * (hops as usize) {
+    if room < 2 + 2 * (sendings as usize) {
         return Outcome {
             number: 9,
             place: 0,
@@ -160,26 +215,33 @@ fn room_test(outcome: Outcome, room: usize, hops: u32) -> Outcome
 }
 
 // Reads the sheet and tests the room.
-fn prepare(sheet: &[u8], room: usize) -> Tree
-    ensures { λ r. ⌜ r ≡ prepared (now (sheet .entry)) room ⌝ }
+fn prepare(mode: Mode, sheet: &[u8], room: usize) -> Tree
+    ensures { λ r. ⌜ r ≡ prepared mode (now (sheet .entry)) room ⌝ }
 {
     let mut tree = sheet::read(sheet);
-    let outcome = room_test(tree.outcome, room, tree.hops);
+    let sendings = sendings_in(mode, tree.probes, tree.hops);
+    let outcome = room_test(tree.outcome, room, sendings);
     tree.outcome = outcome;
     tree
 }
 
 // Fills the buffer with the plan and answers for it.
-fn finish(tree: Tree, table: [[bool; 65]; 65], own: [u8; 65], m: u8, buf: &mut [u8]) -> Planned
-    requires two { ⌜ 2 ≤ length (now buf) ⌝ }
-    requires ready { ⌜ Ready (tree .probes) (byNode (tree .parents)) (tree .packets) (length (now buf) - 2) ⌝ }
-    requires few { ⌜ weigh (levelBy (tree .probes) (byNode (tree .parents))) (tree .packets) ≤ 65535 ⌝ }
-    ensures { λ r. ⌜ Finished (slotsBy (tree .probes) (tree .parents) table own m (tree .hops) (tree .packets)) m (now (buf .entry)) (now (buf .exit)) r ⌝ }
+fn finish(
+    mode: Mode,
+    tree: Tree,
+    table: [[bool; 65]; 65],
+    own: [u8; 65],
+    m: u8,
+    buf: &mut [u8],
+) -> Planned
+    requires { ⌜ ToFill mode (tree .probes) (tree .parents) (tree .packets) (length (now buf)) ⌝ }
+    ensures { λ r. ⌜ Finished (slotsOn mode tree table own m) m (now (buf .entry)) (now (buf .exit)) r ⌝ }
 {
     let p = tree.probes;
     let parents = tree.parents;
     let packets = tree.packets;
-    let made = fill(p, parents, packets, table, own, m, tree.hops, buf);
+    let sendings = sendings_in(mode, p, tree.hops);
+    let made = fill(mode, p, parents, packets, table, own, m, sendings, buf);
     let slots = made.slots;
     if 65535 < slots {
         return meaning::refused_plan(Outcome {
@@ -208,12 +270,13 @@ fn colours_by_level(levels: [u8; 65], colours: [u8; 65]) -> [u8; 65]
     own
 }
 
-// The plan by probe of any sheet, into any buffer, or a numbered refusal.
-pub fn by_probe(sheet: &[u8], buf: &mut [u8]) -> Planned
-    ensures answer { λ r. ⌜ r ≡ planMade byProbe (now (sheet .entry)) (length (now (buf .entry))) .answer ⌝ }
-    ensures buffer { λ _. ⌜ now (buf .exit) ≡ front (now (buf .entry)) (planMade byProbe (now (sheet .entry)) (length (now (buf .entry))) .written) ⌝ }
+// The plan by probe of any sheet, of packets or of merged readings, into any buffer, or a numbered refusal.
+fn by_probe_in(mode: Mode, sheet: &[u8], buf: &mut [u8]) -> Planned
+    ensures answer { λ r. ⌜ r ≡ planMadeIn mode (byProbeIn mode) (now (sheet .entry)) (length (now (buf .entry))) .answer ⌝ }
+    ensures buffer { λ _. ⌜ now (buf .exit)
+        ≡ front (now (buf .entry)) (planMadeIn mode (byProbeIn mode) (now (sheet .entry)) (length (now (buf .entry))) .written) ⌝ }
 {
-    let tree = prepare(sheet, buf.len());
+    let tree = prepare(mode, sheet, buf.len());
     let outcome = tree.outcome;
     if outcome.number != 0 {
         return meaning::refused_plan(outcome);
@@ -223,7 +286,23 @@ pub fn by_probe(sheet: &[u8], buf: &mut [u8]) -> Planned
     let table = sheet::conflicts(sheet, p, parents);
     let own = colour::colouring(table, 2, p);
     let m = colour::used(own);
-    finish(tree, table, own, m, buf)
+    finish(mode, tree, table, own, m, buf)
+}
+
+// The plan by probe of any sheet, into any buffer, or a numbered refusal.
+pub fn by_probe(sheet: &[u8], buf: &mut [u8]) -> Planned
+    ensures answer { λ r. ⌜ r ≡ planMade byProbe (now (sheet .entry)) (length (now (buf .entry))) .answer ⌝ }
+    ensures buffer { λ _. ⌜ now (buf .exit) ≡ front (now (buf .entry)) (planMade byProbe (now (sheet .entry)) (length (now (buf .entry))) .written) ⌝ }
+{
+    by_probe_in(Mode::Packets, sheet, buf)
+}
+
+// The plan of merged readings of any sheet, into any buffer, or a numbered refusal.
+pub fn merged(sheet: &[u8], buf: &mut [u8]) -> Planned
+    ensures answer { λ r. ⌜ r ≡ mergedMade (now (sheet .entry)) (length (now (buf .entry))) .answer ⌝ }
+    ensures buffer { λ _. ⌜ now (buf .exit) ≡ front (now (buf .entry)) (mergedMade (now (sheet .entry)) (length (now (buf .entry))) .written) ⌝ }
+{
+    by_probe_in(Mode::Merged, sheet, buf)
 }
 
 // The plan by level of any sheet, into any buffer, or a numbered refusal.
@@ -231,7 +310,7 @@ pub fn by_level(sheet: &[u8], buf: &mut [u8]) -> Planned
     ensures answer { λ r. ⌜ r ≡ planMade byLevel (now (sheet .entry)) (length (now (buf .entry))) .answer ⌝ }
     ensures buffer { λ _. ⌜ now (buf .exit) ≡ front (now (buf .entry)) (planMade byLevel (now (sheet .entry)) (length (now (buf .entry))) .written) ⌝ }
 {
-    let tree = prepare(sheet, buf.len());
+    let tree = prepare(Mode::Packets, sheet, buf.len());
     let outcome = tree.outcome;
     if outcome.number != 0 {
         return meaning::refused_plan(outcome);
@@ -245,5 +324,5 @@ pub fn by_level(sheet: &[u8], buf: &mut [u8]) -> Planned
     let colours = colour::colouring(above, 1, depth.0);
     let own = colours_by_level(levels, colours);
     let m = colour::used(colours);
-    finish(tree, table, own, m, buf)
+    finish(Mode::Packets, tree, table, own, m, buf)
 }

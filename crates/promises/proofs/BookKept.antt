@@ -9,6 +9,7 @@ use native.Mathlib.Omega.{arith}
 use lib.Dec.{eqb, ltb}
 use lib.ListN.{length, getD, take}
 use borrow.Author.Tests.{le-ltb, lt-ltb}
+use Rattle.meaning.specs.declared.Mode.the-variants.{Packets}
 use Rattle.meaning.specs.declared.Booked.{Booked}
 use Rattle.meaning.specs.declared.Outcome.{Outcome}
 use Rattle.meaning.specs.declared.Verdict.{Verdict}
@@ -36,7 +37,7 @@ use Rattle.promises.proofs.Bytes.{bytes-below}
 module _ (s plan buffer : Bytes) where
   -- the verdict behind the names
   verdict : judgement s plan .verdict .outcome ≡ judge s plan .outcome
-  verdict = ap (λ (v : Verdict). v .outcome) (without-names s plan)
+  verdict = ap (λ (v : Verdict). v .outcome) (without-names Packets s plan)
 
   -- what is made, by whether it is a book
   told : (b : Bool) → isAccepted (bookOutcome s plan (length buffer)) ≡ b → (o : Outcome) → bookOutcome s plan (length buffer) ≡ o → (r : Booked) (left : Bytes)
@@ -56,7 +57,7 @@ module _ (s plan buffer : Bytes) where
 
   module _ (passes : Passes s plan) where
     names : judgement s plan .names ≡ nobody
-    names = else-nobody s plan (passed-ran s plan passes .sheet) (inl (omega (arith, ap (λ (o : Outcome). o .number) (passed-whole s plan passes))))
+    names = else-nobody Packets s plan (passed-ran s plan passes .sheet) (inl (omega (arith, ap (λ (o : Outcome). o .number) (passed-whole s plan passes))))
 
     behind : bookOutcome s plan (length buffer) ≡ given 22 0 (ltb (length buffer) (length (wakeBook s plan)))
     behind = then-goes (judgement s plan .verdict .outcome) _ (ap isAccepted verdict ∙ passes)

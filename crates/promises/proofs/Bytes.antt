@@ -4,6 +4,7 @@ use mathlib.Core.List.{List, [], _∷_}
 use Prim.Native.Nat.{ℕ, zero, suc, _<_}
 use native.Mathlib.Omega.{arith}
 use lib.ListN.{getD, take}
+use Rattle.meaning.specs.declared.Mode.the-variants.{Packets}
 use Rattle.meaning.specs.Words.{Bytes}
 use Rattle.meaning.specs.Sheet.{decidingSheet}
 use Rattle.meaning.specs.Plan.{decidingPlan}
@@ -22,7 +23,7 @@ bytes-below (byte ∷ bytes) (suc k) = bytes-below bytes k
 
 module _ (s : Bytes) (plan : List Byte) where
   pub bytes-good : Passes s (numbers plan) → Good s (numbers plan)
-  bytes-good = passed-good s (numbers plan) (bytes-below plan 0) (bytes-below plan 1)
+  bytes-good = passed-good Packets s (numbers plan) (bytes-below plan 0) (bytes-below plan 1)
 
   pub plan-bytes-decide : judge s (take decidingPlan (numbers plan)) ≡ judge s (numbers plan)
   plan-bytes-decide = plan-decided s (numbers plan) (bytes-below plan)
@@ -32,4 +33,4 @@ module _ (s : Bytes) (plan : List Byte) where
 
 pub choice-decided : (s a b : Bytes) → choice (take decidingSheet s) a b ≡ choice s a b
 unfolding choice
-choice-decided s a b = ap₂ chooseBy (verdict-decided s a) (verdict-decided s b)
+choice-decided s a b = ap₂ chooseBy (verdict-decided Packets s a) (verdict-decided Packets s b)

@@ -1,12 +1,12 @@
--- A planner plans every accepted sheet in a buffer with room: its own slots are at most the hops, so that 10 is not given; and the three cases are all.
-use mathlib.Core.Path.{_≡_, refl, sym, ap, ap₂, _∙_}
+-- The two planners of packets answer as any way does; its own slots are at most the hops, so that 10 is not given; and the three cases are all.
+use mathlib.Core.Path.{_≡_, refl, sym, ap, _∙_}
 use mathlib.Core.Bool.{Bool, true, false}
 use Prim.Native.Nat.{ℕ, _+_, _-_, _*_, _≤_}
 use native.Mathlib.Omega.{arith}
-use borrow.Author.Tests.{ltb-true, ltb-false, lt-ltb}
+use borrow.Author.Tests.{ltb-true, ltb-false}
 use lib.Dec.{ltb}
-use lib.ListN.{length, take, drop}
-use lib.Seq.{take-at}
+use lib.ListN.{length, take}
+use Rattle.meaning.specs.declared.Mode.the-variants.{Packets}
 use Rattle.meaning.specs.declared.Outcome.{Outcome}
 use Rattle.meaning.specs.declared.Planned.{Planned}
 use Rattle.meaning.specs.Words.{Bytes}
@@ -16,12 +16,9 @@ use Rattle.meaning.specs.Plan.{planBytes, roomFor, front}
 use Rattle.meaning.specs.Conflict.{largestDegree}
 use Rattle.meaning.specs.Colour.{depth}
 use Rattle.meaning.specs.Rounds.{byProbe, byLevel}
-use Rattle.meaning.specs.Answer.{accepted, isAccepted, given, _then_, sheetTest, planTest, refusedPlan, PlanMade, planMade}
+use Rattle.meaning.specs.Answer.{accepted, isAccepted, sheetTest, refusedPlan}
 use Rattle.meaning.specs.Judge.{judge}
-use Rattle.laws.proofs.Accepted.{then-goes, then-stays}
-use Rattle.laws.proofs.Grounds.{hops-most}
 use Rattle.laws.proofs.Own.{OwnPlan, by-probe-plan, by-level-plan}
-use Rattle.laws.proofs.PlanMade.{tested, whole, nothing, makes, sheet-refuses, room-passes}
 use Rattle.limits.proofs.Deciding.{plan-made-decided}
 use Rattle.limits.proofs.Hops.{hops-limit}
 use Rattle.limits.proofs.MostByProbe.{by-probe-most, by-probe-levels, by-probe-packets}
@@ -30,46 +27,22 @@ use Rattle.limits.proofs.Fewest.{slots-least-branch}
 use Rattle.limits.proofs.PlanRuns.{passed-ran}
 use Rattle.limits.proofs.RoundBeatsSlot.{by-probe-any, by-probe-degree}
 use Rattle.promises.proofs.Numbers.{sheet-within}
+use Rattle.promises.proofs.PlanAnswered.{of-made, sheet-refused, room-refused, is-planned, is-passed}
 use Rattle.promises.specs.Answers.{Planner, probe, level, way, slotsBy, answer, after, planOf, Answers, counted, Accepted, Refused, NoRelay, Room, Short, Passes}
 
-own : (planner : Planner) (s : Bytes) → Accepted s → OwnPlan s (way planner s)
+own : (planner : Planner) (s : Bytes) → Accepted s → OwnPlan Packets s (way planner s)
 own probe s ok = by-probe-plan s ok
 own level s ok = by-level-plan s ok
 
--- what is made decides the answer and the buffer
-of-made : (planner : Planner) (s buffer : Bytes) (made : PlanMade) → planMade (way planner) s (length buffer) ≡ made
-    → Answers planner s buffer (made .answer) (front buffer (made .written))
-of-made planner s buffer made is = (ap (λ (m : PlanMade). m .answer) is, ap (λ (m : PlanMade). front buffer (m .written)) is)
-
 module _ (planner : Planner) (s buffer : Bytes) where
-  abbrev its : Outcome
-  its = tested (way planner) s (length buffer)
-
-  tests-pass : Accepted s → Room s buffer → its ≡ accepted
-  tests-pass ok room = room-passes (way planner) s (length buffer) ok room (omega (arith, own planner s ok .few, hops-most s ok))
-
   pub plans : Accepted s → Room s buffer → Answers planner s buffer (counted planner s) (front buffer (planBytes (slotsBy planner s)))
-  plans ok room =
-      let pass = tests-pass ok room in
-      of-made planner s buffer (whole (way planner) s (length buffer) accepted)
-      (makes (way planner) s (length buffer) true (ap isAccepted pass) ∙ ap (whole (way planner) s (length buffer)) pass)
-
-  refuses : (o : Outcome) → its ≡ o → isAccepted o ≡ false → Answers planner s buffer (refusedPlan o) buffer
-  refuses o is not0 =
-      of-made planner s buffer (nothing (way planner) s (length buffer) o)
-      (makes (way planner) s (length buffer) false (ap isAccepted is ∙ not0) ∙ ap (nothing (way planner) s (length buffer)) is)
+  plans ok room = is-planned Packets (way planner) s buffer (own planner s ok) ok room
 
   pub refuses-sheet : Refused s → Answers planner s buffer (refusedPlan (sheetTest s)) buffer
-  refuses-sheet refused = refuses (sheetTest s) (sheet-refuses (way planner) s (length buffer) refused) refused
+  refuses-sheet refused = sheet-refused Packets (way planner) s buffer refused
 
   pub refuses-short : Accepted s → Short s buffer → Answers planner s buffer (refusedPlan (record { number = 9; place = 0 })) buffer
-  unfolding planTest
-  refuses-short ok short =
-      refuses (record { number = 9; place = 0 })
-      (then-goes (sheetTest s) _ ok
-      ∙ ap (λ (t : Bool). given 9 0 t then given 10 0 (ltb 65535 (length (slotsBy planner s)))) (lt-ltb (length buffer) (roomFor (hops s)) short)
-      ∙ then-stays (record { number = 9; place = 0 }) _ refl)
-      refl
+  refuses-short ok short = room-refused Packets (way planner) s buffer ok short
 
   -- so each case gives its own number, and none gives 10
   pub never-ten : (answer planner s buffer .outcome .number ≡ 10) → ⊥
@@ -92,22 +65,15 @@ module _ (planner : Planner) (s buffer : Bytes) where
           let is = number _ (outcome _ _ (plans ok (ltb-false (length buffer) (roomFor (hops s)) e))) in
           omega (arith, is)
 
-  -- the plan in the buffer is the one that is counted, and the judge passes it
   pub own-passes : Accepted s → Room s buffer → judge s (planOf planner s buffer) ≡ record { outcome = accepted; slots = answer planner s buffer .slots }
-  own-passes ok room =
-      let plan = plans ok room in
-      ap (judge s)
-      (ap₂ take (ap (λ (r : Planned). r .bytes) (plan .0)) (plan .1)
-      ∙ take-at (planBytes (slotsBy planner s)) (drop (length (planBytes (slotsBy planner s))) buffer) (length (planBytes (slotsBy planner s))) refl)
-      ∙ own planner s ok .passed
-      ∙ (λ i. record { outcome = accepted; slots = sym (plan .0) i .slots })
+  own-passes ok room = is-passed Packets (way planner) s buffer (own planner s ok) ok room
 
   pub slots-few : Accepted s → Room s buffer → (answer planner s buffer .slots ≤ hops s) × (hops s ≤ 30240)
   slots-few ok room = (rw (plans ok room .0) (own planner s ok .few), hops-limit s ok)
 
   -- the bytes that decide what is made decide the answer and the buffer
   pub decides : Answers planner (take decidingSheet s) buffer (answer planner s buffer) (after planner s buffer)
-  decides = of-made planner (take decidingSheet s) buffer _ (plan-made-decided (way planner) s (length buffer))
+  decides = of-made Packets (way planner) (take decidingSheet s) buffer _ (plan-made-decided Packets (way planner) s (length buffer))
 
 -- what limits the paper's plan limits the answer
 probe-limit : (s buffer : Bytes) → Accepted s → Room s buffer → (rounds : ℕ) → length (slotsBy probe s) ≤ way probe s .colours * rounds

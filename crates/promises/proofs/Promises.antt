@@ -1,25 +1,30 @@
--- The page of promises: what planners, judge, chooser, lister, telephone, other arrangements, the maker of wake books and the writer and reader of graphs answer for every input, by their contracts, in the words of `specs/Answers.antt` and, of books and graphs, `specs/WakeBooks.antt` and `specs/Graphs.antt`.
+-- The page of promises: what planners, judges, chooser, lister, telephone, other arrangements, the maker of wake books and the writer and reader of graphs answer for every
+-- input, by their contracts, in the words of `specs/Answers.antt` and, of merged readings, books and graphs, `specs/MergedReadings.antt`, `specs/WakeBooks.antt` and `specs/Graphs.antt`.
 use mathlib.Core.Path.{_≡_}
 use mathlib.Core.Bool.{true, false, cond}
 use mathlib.Core.List.{List, []}
 use Prim.Native.Nat.{ℕ, _+_, _-_, _*_, _≤_, _<_}
 use lib.Dec.{T, eqb}
 use lib.ListN.{length, getD, take}
+use Rattle.meaning.specs.declared.Mode.the-variants.{Packets, Merged}
 use Rattle.meaning.specs.declared.Choice.the-variants.{Neither, First, Second}
 use Rattle.meaning.specs.Words.{Bytes, Node, Relation, some, someProbe, mostProbes}
 use Rattle.meaning.specs.Yard.{isProbe, branchPackets, hearsAndSends}
 use Rattle.meaning.specs.Sheet.{decidingSheet, probeCount, parentOf, packetsOf, hops, allPackets, heaviest, longest, slowest, leastSlots}
-use Rattle.meaning.specs.Plan.{decidingPlan, planBytes, front, slotsOfPlan}
+use Rattle.meaning.specs.Plan.{decidingPlan, decidingMerged, planBytes, roomFor, front, slotsOfPlan}
 use Rattle.meaning.specs.Colour.{coloursUsed, probeColours, depth, levelColours}
-use Rattle.meaning.specs.Answer.{accepted, isAccepted, sheetTest, refusedPlan}
-use Rattle.meaning.specs.Judge.{slotTest, slotTested, judge, nobody, judgement, choice, handedBack}
+use Rattle.meaning.specs.Rounds.{merged}
+use Rattle.meaning.specs.Answer.{accepted, isAccepted, sheetTest, refusedPlan, mergedMade}
+use Rattle.meaning.specs.Judge.{slotTest, slotTested, judgeIn, judge, nobody, judgementIn, judgement, choice, handedBack}
 use Rattle.meaning.specs.Lister.{list, listing}
 use Rattle.meaning.specs.Book.{among, someSender, wakeBook, anyBook, bookMade}
 use Rattle.meaning.specs.Telephone.{atMost, timesAny, asked}
 use Rattle.meaning.specs.Legal.{Good}
-use Rattle.meaning.specs.Blame.{Blames, NamesRightly}
+use Rattle.meaning.specs.Blame.{Blames, NamesRightlyIn, NamesRightly}
+use Rattle.meaning.specs.Merged.{MergedGood, mergedMost, mergedAsked}
 use Rattle.meaning.specs.Conflict.{tableOf, conflictTable, largestDegree}
 use Rattle.laws.proofs.Exact.{good-passed}
+use Rattle.laws.proofs.MergedExact.{merged-good-passed}
 use Rattle.laws.proofs.Naming.{slot-blames, slot-without-names}
 use Rattle.laws.proofs.Blame.{without-names, refused-names, names-rightly}
 use Rattle.laws.proofs.Recorded.{no-empty-slot}
@@ -38,6 +43,7 @@ use Rattle.arrangement.proofs.NoIdle.{Full}
 use Rattle.arrangement.proofs.Equal.{equal-worst}
 use Rattle.arrangement.proofs.HungDecided.{spread-decided, hung-decided}
 use Rattle.telephone.proofs.Limits.{answered, not-answered, least-ours, ours-most, least-any, ours-times, ours-shortest, told-decided}
+use Rattle.merged.proofs.MergedLimits as Merging
 use Rattle.graph.specs.Part.{newline, marks}
 use Rattle.graph.specs.Table.{noEdges}
 use Rattle.graph.specs.Reading.{graphRead}
@@ -46,11 +52,17 @@ use Rattle.readback.specs.Named.{named}
 use Rattle.readback.proofs.Drawn.{written-reads-back, refused-empty}
 use Rattle.readback.proofs.EdgeSet.{tells-edges}
 use Rattle.promises.specs.WakeBooks.{MakesBook, sendings, receivings, Rising}
-use Rattle.promises.proofs.BookKept.{book-makes, book-refuses, book-short, sendings-tell, receivings-tell, lists-rise, sendings-branch, receivings-branch, sheet-bytes-decide-book, plan-bytes-decide-book}
+use Rattle.promises.proofs.BookKept.{book-makes, book-refuses, book-short, sendings-tell, receivings-tell}
+use Rattle.promises.proofs.BookKept.{lists-rise, sendings-branch, receivings-branch, sheet-bytes-decide-book, plan-bytes-decide-book}
+use Rattle.promises.specs.MergedReadings.{mergedSlots, mergedAnswer, mergedPlan, MergedRoom, MergedShort, MergedPasses}
+use Rattle.promises.proofs.MergedKept.{merges, merges-nothing, merges-short, merged-passes, merged-few, merged-made-decided}
+use Rattle.promises.proofs.MergedKept.{merged-bytes-good, merged-deep, merged-least, merged-bytes-decide, merged-bytes-decide-judgement}
 use Rattle.promises.specs.Graphs.{Draws, textOf}
 use Rattle.promises.proofs.DrawnGraph.{draws, draws-nothing, draws-short}
-use Rattle.promises.specs.Answers.{Planner, probe, level, way, slotsBy, answer, after, planOf, Answers, counted, Accepted, Refused, NoRelay, Room, Short, SameProbes, Passes, Byte, numbers}
-use Rattle.promises.proofs.Planning.{plans, refuses-sheet, refuses-short, never-ten, own-passes, slots-few, by-probe-limit, by-probe-longest, by-probe-heaviest, by-level-limit, by-level-all, by-probe-theirs, by-probe-degrees, branch-limit, decides}
+use Rattle.promises.specs.Answers.{Planner, probe, level, way, slotsBy, answer, after, planOf, AnswersIn, Answers, countedIn}
+use Rattle.promises.specs.Answers.{counted, Accepted, Refused, NoRelay, Room, Short, SameProbes, Passes, Byte, numbers}
+use Rattle.promises.proofs.Planning.{plans, refuses-sheet, refuses-short, never-ten, own-passes, slots-few, by-probe-limit, by-probe-longest}
+use Rattle.promises.proofs.Planning.{by-probe-heaviest, by-level-limit, by-level-all, by-probe-theirs, by-probe-degrees, branch-limit, decides}
 use Rattle.promises.proofs.Rehung.{no-worse-ours, no-worse-full, hangs-worst, worst-for-all, no-better-any, hangs-best}
 use Rattle.promises.proofs.ChosenPlan.{first-chosen, second-chosen, neither-chosen}
 use Rattle.promises.proofs.Bytes.{bytes-good, plan-bytes-decide, plan-bytes-decide-judgement, choice-decided}
@@ -74,7 +86,7 @@ never-10 = never-ten
 
 -- "The plan in bytes": ours have no slot without a sender, and no more slots than hops, which are at most 30,240
 pub no-slot-empty : (planner : Planner) (s : Bytes) (k : ℕ) → k < length (slotsBy planner s) → 0 < length (getD (slotsBy planner s) k [])
-no-slot-empty planner s = no-empty-slot s (way planner s)
+no-slot-empty planner s = no-empty-slot Packets s (way planner s)
 
 pub slots-hops : (planner : Planner) (s buffer : Bytes) → Accepted s → Room s buffer → (answer planner s buffer .slots ≤ hops s) × (hops s ≤ 30240)
 slots-hops = slots-few
@@ -93,7 +105,7 @@ pub passes-good : (s : Bytes) (plan : List Byte) → Passes s (numbers plan) →
 passes-good = bytes-good
 
 pub good-passes : (s plan : Bytes) (good : Good s plan) → judge s plan ≡ record { outcome = accepted; slots = length (good .slots) }
-good-passes = good-passed
+good-passes = good-passed Packets
 
 -- Demand 2: and it passes all our own plans, with the planner's own number of slots
 pub ours-pass : (planner : Planner) (s buffer : Bytes) → Accepted s → Room s buffer
@@ -244,7 +256,7 @@ pub bytes-decide-plan-made : (planner : Planner) (s buffer : Bytes)
 bytes-decide-plan-made = decides
 
 pub bytes-decide-verdict : (s plan : Bytes) → judge (take decidingSheet s) plan ≡ judge s plan
-bytes-decide-verdict = verdict-decided
+bytes-decide-verdict = verdict-decided Packets
 
 pub bytes-decide-choice : (s a b : Bytes) → choice (take decidingSheet s) a b ≡ choice s a b
 bytes-decide-choice = choice-decided
@@ -268,7 +280,7 @@ bytes-decide-plan = plan-bytes-decide
 
 -- "Whom a refusal names": without its names the judge's answer is the verdict of which every promise above speaks, and a slot's is that of its test
 pub verdict-stands : (s plan : Bytes) → judgement s plan .verdict ≡ judge s plan
-verdict-stands = without-names
+verdict-stands = without-names Packets
 
 pub slot-verdict-stands : (p : ℕ) (relation : Relation) (held : List ℕ) (place : ℕ) (slot : List Node)
     → slotTested p relation held place slot .outcome ≡ slotTest p relation held place slot
@@ -282,15 +294,15 @@ slot-names-blame = slot-blames
 -- "Whom a refusal names": and so is whom the judge names, in the slot at its place, while the packets are held that the slots before it leave
 pub names-blame : (s plan : Bytes) → Accepted s
     → NamesRightly s plan (judgement s plan .verdict .outcome .number) (judgement s plan .verdict .outcome .place) (judgement s plan .names)
-names-blame s plan ok = rw without-names (names-rightly s plan ok)
+names-blame s plan ok = rw (without-names Packets) (names-rightly Packets s plan ok)
 
 -- "Whom a refusal names": a refused sheet names nobody
 pub names-nobody : (s plan : Bytes) → Refused s → judgement s plan .names ≡ nobody
-names-nobody = refused-names
+names-nobody = refused-names Packets
 
 -- "Whom a refusal names": the bytes that decide a verdict decide its names too, of a sheet and of a plan
 pub bytes-decide-judgement : (s plan : Bytes) → judgement (take decidingSheet s) plan ≡ judgement s plan
-bytes-decide-judgement = judgement-decided
+bytes-decide-judgement = judgement-decided Packets
 
 pub bytes-decide-plan-judgement : (s : Bytes) (plan : List Byte) → judgement s (take decidingPlan (numbers plan)) ≡ judgement s (numbers plan)
 bytes-decide-plan-judgement = plan-bytes-decide-judgement
@@ -349,6 +361,89 @@ bytes-decide-book = sheet-bytes-decide-book
 
 pub bytes-decide-plan-book : (s : Bytes) (plan : List Byte) (room : ℕ) → bookMade s (take decidingPlan (numbers plan)) room ≡ bookMade s (numbers plan) room
 bytes-decide-plan-book = plan-bytes-decide-book
+
+-- "Merged readings": every accepted sheet gets its merged plan wherever there is room for a sending of each probe; every other sheet gets the refusal of its own test, and a
+-- buffer that is too short gets 9; nothing is written then
+pub merged-planned : (s buffer : Bytes) → Accepted s → MergedRoom s buffer
+    → AnswersIn Merged merged s buffer (countedIn Merged merged s) (front buffer (planBytes (mergedSlots s)))
+merged-planned = merges
+
+pub merged-refused : (s buffer : Bytes) → Refused s → AnswersIn Merged merged s buffer (refusedPlan (sheetTest s)) buffer
+merged-refused = merges-nothing
+
+pub merged-no-room : (s buffer : Bytes) → Accepted s → MergedShort s buffer
+    → AnswersIn Merged merged s buffer (refusedPlan (record { number = 9; place = 0 })) buffer
+merged-no-room = merges-short
+
+-- "Merged readings": the judge of this mode passes a plan exactly when it is good, told without a judge in `Merged.antt`: the sheet is accepted, the layout kept, every probe sends
+-- exactly once, each after all its children, and no slot has a conflict (the last clause of its contract says so of its own bytes)
+pub merged-passes-good : (s : Bytes) (plan : List Byte) → MergedPasses s (numbers plan) → MergedGood s (numbers plan)
+merged-passes-good = merged-bytes-good
+
+pub merged-good-passes : (s plan : Bytes) (good : MergedGood s plan) → judgeIn Merged s plan ≡ record { outcome = accepted; slots = length (good .slots) }
+merged-good-passes = merged-good-passed
+
+-- .. and it passes our own, with the planner's own number of slots
+pub merged-ours-pass : (s buffer : Bytes) → Accepted s → MergedRoom s buffer
+    → judgeIn Merged s (mergedPlan s buffer) ≡ record { outcome = accepted; slots = mergedAnswer s buffer .slots }
+merged-ours-pass = merged-passes
+
+-- "Merged readings": no merged plan that passes, from anyone, has fewer slots than the yard has levels ..
+pub merged-no-fewer-slots : (s : Bytes) (plan : List Byte) → MergedPasses s (numbers plan) → depth s ≤ judgeIn Merged s (numbers plan) .slots
+merged-no-fewer-slots = merged-deep
+
+-- .. and ours has at most its colours times the depth, at most one a probe, none without a sender, and no more bytes than the room that it wants
+pub merged-slots : (s buffer : Bytes) → Accepted s → MergedRoom s buffer
+    → (mergedAnswer s buffer .slots ≤ mergedAnswer s buffer .colours * depth s)
+    × (mergedAnswer s buffer .slots ≤ probeCount s)
+    × (mergedAnswer s buffer .bytes ≤ roomFor (probeCount s))
+merged-slots = merged-few
+
+pub merged-no-slot-empty : (s : Bytes) (k : ℕ) → k < length (mergedSlots s) → 0 < length (getD (mergedSlots s) k [])
+merged-no-slot-empty s = no-empty-slot Merged s (merged s)
+
+-- "Merged readings", on the telephone: every accepted sheet is answered for: the depth, ours, and the smaller of the two limits on ours; at least ≤ ours ≤ at most
+pub merged-told : (s : Bytes) → Accepted s
+    → mergedAsked s ≡ record { outcome = accepted; least = depth s; ours = length (mergedSlots s); most = mergedMost s (coloursUsed (probeColours s)) }
+merged-told = Merging.answered
+
+pub merged-not-told : (s : Bytes) → Refused s → mergedAsked s ≡ record { outcome = sheetTest s; least = 0; ours = 0; most = 0 }
+merged-not-told = Merging.not-answered
+
+pub merged-told-limits : (s : Bytes) → (mergedAsked s .least ≤ mergedAsked s .ours) × (mergedAsked s .ours ≤ mergedAsked s .most)
+merged-told-limits s = (Merging.least-ours s, Merging.ours-most s)
+
+pub merged-told-least : (s : Bytes) (plan : List Byte) → MergedPasses s (numbers plan) → mergedAsked s .least ≤ judgeIn Merged s (numbers plan) .slots
+merged-told-least = merged-least
+
+-- "Merged readings": without its names the answer of the judge of this mode is the verdict of which these promises speak
+pub merged-verdict-stands : (s plan : Bytes) → judgementIn Merged s plan .verdict ≡ judgeIn Merged s plan
+merged-verdict-stands = without-names Merged
+
+-- "Merged readings": whom the judge of this mode names is to blame in the slot at its place, by who is ready when the slots before it have been sent; a refused sheet names nobody
+pub merged-names-blame : (s plan : Bytes) → Accepted s
+    → NamesRightlyIn Merged s plan (judgementIn Merged s plan .verdict .outcome .number) (judgementIn Merged s plan .verdict .outcome .place) (judgementIn Merged s plan .names)
+merged-names-blame s plan ok = rw (without-names Merged) (names-rightly Merged s plan ok)
+
+pub merged-names-nobody : (s plan : Bytes) → Refused s → judgementIn Merged s plan .names ≡ nobody
+merged-names-nobody = refused-names Merged
+
+-- "Merged readings": the first 4,162 bytes of a sheet decide every answer in this mode too, and the first 65,855 of a plan its verdict and its names
+pub bytes-decide-merged : (s : Bytes) (room : ℕ) → mergedMade (take decidingSheet s) room ≡ mergedMade s room
+bytes-decide-merged = merged-made-decided
+
+pub bytes-decide-merged-told : (s : Bytes) → mergedAsked (take decidingSheet s) ≡ mergedAsked s
+bytes-decide-merged-told = Merging.told-decided
+
+pub bytes-decide-merged-judgement : (s plan : Bytes) → judgementIn Merged (take decidingSheet s) plan ≡ judgementIn Merged s plan
+bytes-decide-merged-judgement = judgement-decided Merged
+
+pub bytes-decide-merged-plan : (s : Bytes) (plan : List Byte) → judgeIn Merged s (take decidingMerged (numbers plan)) ≡ judgeIn Merged s (numbers plan)
+bytes-decide-merged-plan = merged-bytes-decide
+
+pub bytes-decide-merged-plan-judgement : (s : Bytes) (plan : List Byte)
+    → judgementIn Merged s (take decidingMerged (numbers plan)) ≡ judgementIn Merged s (numbers plan)
+bytes-decide-merged-plan-judgement = merged-bytes-decide-judgement
 
 -- "A graph as text": every accepted sheet's graph is written wherever there is room, and what is written reads back as the sheet's conflict table, with its number of probes
 pub graph-drawn : (s buffer : Bytes) → Accepted s → length (graphText s) ≤ length buffer

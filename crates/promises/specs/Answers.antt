@@ -4,13 +4,15 @@ use mathlib.Core.Bool.{true, false}
 use mathlib.Core.List.{List, [], _∷_}
 use Prim.Native.Nat.{ℕ, _≤_, _<_}
 use lib.ListN.{length, take}
+use Rattle.meaning.specs.declared.Mode.{Mode}
+use Rattle.meaning.specs.declared.Mode.the-variants.{Packets}
 use Rattle.meaning.specs.declared.Planned.{Planned}
 use Rattle.meaning.specs.Words.{Bytes, Node, Slots}
 use Rattle.meaning.specs.Yard.{isProbe}
 use Rattle.meaning.specs.Sheet.{probeCount, packetsOf, hops}
 use Rattle.meaning.specs.Plan.{planBytes, roomFor, front}
-use Rattle.meaning.specs.Rounds.{Way, byProbe, byLevel, slotsOf}
-use Rattle.meaning.specs.Answer.{accepted, isAccepted, sheetTest, planMade}
+use Rattle.meaning.specs.Rounds.{Way, byProbe, byLevel, slotsIn, slotsOf}
+use Rattle.meaning.specs.Answer.{accepted, isAccepted, sheetTest, planMadeIn, planMade}
 use Rattle.meaning.specs.Judge.{judge}
 
 -- the two planners: `plan::by_probe` and `plan::by_level`
@@ -37,19 +39,26 @@ after planner s buffer = front buffer (planMade (way planner) s (length buffer) 
 abbrev pub planOf : Planner → (s buffer : Bytes) → Bytes
 planOf planner s buffer = take (answer planner s buffer .bytes) (after planner s buffer)
 
--- it answers this and leaves the buffer so
-abbrev pub Answers : Planner → (s buffer : Bytes) → Planned → Bytes → Type 0
-Answers planner s buffer r left = (answer planner s buffer ≡ r) × (after planner s buffer ≡ left)
+-- it answers this and leaves the buffer so; of any way, in either mode
+abbrev pub AnswersIn : Mode → (by : Bytes → Way) → (s buffer : Bytes) → Planned → Bytes → Type 0
+AnswersIn mode by s buffer r left =
+    (planMadeIn mode by s (length buffer) .answer ≡ r) × (front buffer (planMadeIn mode by s (length buffer) .written) ≡ left)
 
--- the answer that counts the paper's plan
-abbrev pub counted : Planner → (s : Bytes) → Planned
-counted planner s =
+abbrev pub Answers : Planner → (s buffer : Bytes) → Planned → Bytes → Type 0
+Answers planner s buffer r left = AnswersIn Packets (way planner) s buffer r left
+
+-- the answer that counts the plan
+abbrev pub countedIn : Mode → (by : Bytes → Way) → (s : Bytes) → Planned
+countedIn mode by s =
     record {
       outcome = accepted;
-      colours = way planner s .colours;
-      slots = length (slotsBy planner s);
-      bytes = length (planBytes (slotsBy planner s));
+      colours = by s .colours;
+      slots = length (slotsIn mode s (by s));
+      bytes = length (planBytes (slotsIn mode s (by s)));
     }
+
+abbrev pub counted : Planner → (s : Bytes) → Planned
+counted planner s = countedIn Packets (way planner) s
 
 -- a sheet passes its tests, or one of them refuses it; a buffer has room for the plan, or is too short
 abbrev pub Accepted : (s : Bytes) → Type 0

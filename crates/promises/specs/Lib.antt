@@ -2,3 +2,4 @@
 pub mod Answers
 pub mod Graphs
 pub mod WakeBooks
+pub mod MergedReadings

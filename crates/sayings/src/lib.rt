@@ -1,7 +1,8 @@
-// The words of the numbers: `put_saying` decides every byte of them, at a place of a lent buffer.
+// The words of the numbers: `put_saying` and `put_saying_in` decide every byte of them, at a place of a lent buffer.
 ghost use Prim.Native.Nat.{_<_};
 ghost use Rattle.lines.specs.Line.{fitting, Put};
-ghost use Rattle.sayings.specs.Saying.{saying};
+ghost use Rattle.sayings.specs.Saying.{saying, sayingIn};
+use meaning::Mode;
 
 // Puts what 1 to 3 say of a sheet as a whole, in the words of docs/NUMBERS.md, at a place; says where they end.
 fn put_of_sheet(number: u8, out: &mut [u8], at: usize) -> usize
@@ -125,4 +126,18 @@ pub fn put_saying(number: u8, out: &mut [u8], at: usize) -> usize
         return put_of_end(number, out, at);
     }
     put_of_graph(number, out, at)
+}
+
+// The same in a mode: of merged readings 14 and 17 have words of their own.
+pub fn put_saying_in(mode: Mode, number: u8, out: &mut [u8], at: usize) -> usize
+    ensures { λ r. ⌜ Put (now (out .entry)) at (fitting (now (out .entry)) at (sayingIn mode number)) (now (out .exit)) r ⌝ }
+{
+    match mode {
+        Mode::Packets => put_saying(number, out, at),
+        Mode::Merged => match number {
+            14 => lines::put_words(b" is not ready", out, at),
+            17 => lines::put_words(b"some probe never sent", out, at),
+            _ => put_saying(number, out, at),
+        },
+    }
 }

@@ -9,6 +9,7 @@ use native.Mathlib.Omega.{arith}
 use lib.Dec.{leb}
 use lib.ListN.{length, take}
 use borrow.Author.Tests.{leb-true, leb-false}
+use Rattle.meaning.specs.declared.Mode.the-variants.{Packets}
 use Rattle.meaning.specs.declared.Outcome.{Outcome}
 use Rattle.meaning.specs.declared.Told.{Told}
 use Rattle.meaning.specs.declared.Verdict.{Verdict}
@@ -53,13 +54,13 @@ module _ (s : List ℕ) where
 
   -- an accepted sheet
   module _ (ok : isAccepted (sheetTest s) ≡ true) where
-    own : OwnPlan s (byProbe s)
+    own : OwnPlan Packets s (byProbe s)
     own = by-probe-plan s ok
 
     tests-pass : planTest s anyPlan slots ≡ accepted
     tests-pass =
         let most = hops-limit s ok in
-        room-passes byProbe s anyPlan ok (omega (arith, most)) (omega (arith, own .few, most))
+        room-passes Packets byProbe s anyPlan ok (omega (arith, most)) (omega (arith, own .few, most))
 
     -- Demand 3: it is answered, and never by 9 or 10: the fewest of any plan, our plan's slots, at most the smaller of the two, and how many times anybody's
     pub answered : asked s
@@ -73,12 +74,8 @@ module _ (s : List ℕ) where
     unfolding byProbe
     answered =
         asked-tells s
-        ∙ ap (λ (m : PlanMade). tells s (m .answer)) (makes byProbe s anyPlan true (ap isAccepted tests-pass))
+        ∙ ap (λ (m : PlanMade). tells s (m .answer)) (makes Packets byProbe s anyPlan true (ap isAccepted tests-pass))
         ∙ ap (λ (o : Outcome). tells s (record { outcome = o; colours = byProbe s .colours; slots = length slots; bytes = length (planBytes slots) })) tests-pass
-
-    -- and the judge passes that plan with these slots
-    pub ours-passed : judge s (planBytes (slotsOf s (byProbe s))) ≡ record { outcome = asked s .outcome; slots = asked s .ours }
-    ours-passed = own .passed ∙ ap (λ (t : Told). record { outcome = t .outcome; slots = t .ours }) (sym answered)
 
     fewest-slots : leastSlots s ≤ length slots
     fewest-slots =
@@ -99,13 +96,13 @@ module _ (s : List ℕ) where
   -- a refused sheet
   module _ (refused : isAccepted (sheetTest s) ≡ false) where
     tests-refuse : planTest s anyPlan slots ≡ sheetTest s
-    tests-refuse = sheet-refuses byProbe s anyPlan refused
+    tests-refuse = sheet-refuses Packets byProbe s anyPlan refused
 
     -- Demand 3: on refusal the sheet's own number and place are told, and four zeros
     pub not-answered : asked s ≡ record { outcome = sheetTest s; least = 0; ours = 0; most = 0; times = 0 }
     not-answered =
         asked-tells s
-        ∙ ap (λ (m : PlanMade). tells s (m .answer)) (makes byProbe s anyPlan false (ap isAccepted tests-refuse ∙ refused))
+        ∙ ap (λ (m : PlanMade). tells s (m .answer)) (makes Packets byProbe s anyPlan false (ap isAccepted tests-refuse ∙ refused))
         ∙ ap (λ (o : Outcome). tells s (refusedPlan o)) tests-refuse
         ∙ ap (λ (b : Bool). cond b (whole s (refusedPlan (sheetTest s))) (nothing (refusedPlan (sheetTest s)))) refused
 

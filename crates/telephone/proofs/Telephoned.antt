@@ -7,6 +7,7 @@ use Prim.Native.Nat.{ℕ, _*_, _≤_, min}
 use native.Mathlib.Omega.{arith}
 use borrow.Author.Tests.{eq-eqb, ne-eqb}
 use lib.ListN.{length, getD}
+use Rattle.meaning.specs.declared.Mode.the-variants.{Packets}
 use Rattle.meaning.specs.declared.Planned.{Planned}
 use Rattle.meaning.specs.declared.Told.{Told}
 use Rattle.meaning.specs.Yard.{slowestOf, leastSlotsOf}
@@ -55,7 +56,7 @@ module _ (s : List ℕ) (buf : List ℕ) (long : length buf ≡ anyPlan) (planne
     accepts = eq-eqb (planned .outcome .number) 0 passed
 
     sheet-passed : isAccepted (sheetTest s) ≡ true
-    sheet-passed = planned-sheet byProbe s (length buf) (ap (λ (p : Planned). isAccepted (p .outcome)) (sym is) ∙ accepts)
+    sheet-passed = planned-sheet Packets byProbe s (length buf) (ap (λ (p : Planned). isAccepted (p .outcome)) (sym is) ∙ accepts)
 
     module _ (tree : Tree) (read : tree ≡ treeOf s) where
       its : Standing s tree

@@ -8,6 +8,8 @@ use native.Mathlib.Omega.{arith}
 use borrow.Author.Tests.{leb-true, ltb-true}
 use lib.Dec.{eqb, leb, ltb}
 use lib.ListN.{length, length-append}
+use Rattle.meaning.specs.declared.Mode.{Mode}
+use Rattle.meaning.specs.declared.Mode.the-variants.{Packets}
 use Rattle.meaning.specs.declared.Outcome.{Outcome}
 use Rattle.meaning.specs.declared.Planned.{Planned}
 use Rattle.meaning.specs.declared.Names.{Names}
@@ -18,7 +20,7 @@ use Rattle.meaning.specs.Answer.{isAccepted}
 use Rattle.meaning.specs.Lister.{text, decimal, said}
 use Rattle.lines.proofs.Decimal.{digits-most}
 use Rattle.lines.proofs.Lined.{said-length}
-use Rattle.sayings.specs.Saying.{saying}
+use Rattle.sayings.specs.Saying.{sayingIn}
 use Rattle.sayings.proofs.WordsLong.{saying-long, saying-short}
 use Rattle.wording.specs.Worded.{subject, saidOf, oneOrTwo, anySenders, namedSenders, refusedOf, refusedLine, blamedLine, plannedLine, verdictLine, choiceLine, choiceText, writtenLine, misreadLine}
 
@@ -45,14 +47,14 @@ either true order h k = record { short = omega (arith, order, h .short) }
 either false order h k = k
 
 -- with the senders before it, what 12 to 15 say is no longer than what the others say
-said-long : (number : ℕ) {senders : List ℕ} → Within senders 37 → Within (saidOf number senders) 80
+said-long : (mode : Mode) (number : ℕ) {senders : List ℕ} → Within senders 37 → Within (saidOf mode number senders) 80
 unfolding subject
-said-long number {senders} h = go (ltb 11 number) (ltb number 16) refl refl
+said-long mode number {senders} h = go (ltb 11 number) (ltb number 16) refl refl
   where
-    go : (low high : Bool) → ltb 11 number ≡ low → ltb number 16 ≡ high → Within (cond (low && high) senders [] ++ saying number) 80
-    go true true p q = both h (record { short = saying-short number (ltb-true 11 number p) (ltb-true number 16 q) })
-    go true false p q = record { short = saying-long number }
-    go false high p q = record { short = saying-long number }
+    go : (low high : Bool) → ltb 11 number ≡ low → ltb number 16 ≡ high → Within (cond (low && high) senders [] ++ sayingIn mode number) 80
+    go true true p q = both h (record { short = saying-short mode number (ltb-true 11 number p) (ltb-true number 16 q) })
+    go true false p q = record { short = saying-long mode number }
+    go false high p q = record { short = saying-long mode number }
 
 any-long : (number : ℕ) → Within (anySenders number) 37
 unfolding text oneOrTwo
@@ -66,21 +68,21 @@ named-long outcome names =
     both (either (eqb (outcome .number) 15) (leb-true 23 23 refl) two one) (numbered {a = 8} " of slot" (outcome .place) (counted refl))
 
 -- the lines and the text
-refused-of-long : (outcome : Outcome) {senders : List ℕ} → Within senders 37 → Within (refusedOf outcome senders) 102
+refused-of-long : (mode : Mode) (outcome : Outcome) {senders : List ℕ} → Within senders 37 → Within (refusedOf mode outcome senders) 102
 unfolding text
-refused-of-long outcome h =
+refused-of-long mode outcome h =
     let number = numbered {a = 7} "refused" (outcome .number) (counted refl) in
     let place = numbered {a = 0} "" (outcome .place) (counted refl) in
     let before = both (both number place) (counted {bytes = text ": "} {most = 2} refl) in
-    both (both before (said-long (outcome .number) h)) (counted {bytes = text "\n"} {most = 1} refl)
+    both (both before (said-long mode (outcome .number) h)) (counted {bytes = text "\n"} {most = 1} refl)
 
 refused-long : (outcome : Outcome) → Within (refusedLine outcome) 102
 unfolding refusedLine
-refused-long outcome = refused-of-long outcome (any-long (outcome .number))
+refused-long outcome = refused-of-long Packets outcome (any-long (outcome .number))
 
-blamed-long : (outcome : Outcome) (names : Names) → Within (blamedLine outcome names) 102
+blamed-long : (mode : Mode) (outcome : Outcome) (names : Names) → Within (blamedLine mode outcome names) 102
 unfolding blamedLine
-blamed-long outcome names = refused-of-long outcome (named-long outcome names)
+blamed-long mode outcome names = refused-of-long mode outcome (named-long outcome names)
 
 planned-long : (planned : Planned) → Within (plannedLine planned) 102
 unfolding text plannedLine
@@ -91,12 +93,12 @@ planned-long planned =
     let line = both (both (both slots colours) bytes) (counted {bytes = text " bytes\n"} {most = 7} refl) in
     either (isAccepted (planned .outcome)) (leb-true 48 102 refl) line (refused-long (planned .outcome))
 
-verdict-long : (judgement : Judgement) → Within (verdictLine judgement) 102
+verdict-long : (mode : Mode) (judgement : Judgement) → Within (verdictLine mode judgement) 102
 unfolding text verdictLine
-verdict-long judgement =
+verdict-long mode judgement =
     let outcome = judgement .verdict .outcome in
     let line = both (numbered {a = 6} "passed" (judgement .verdict .slots) (counted refl)) (counted {bytes = text " slots\n"} {most = 7} refl) in
-    either (isAccepted outcome) (leb-true 19 102 refl) line (blamed-long outcome (judgement .names))
+    either (isAccepted outcome) (leb-true 19 102 refl) line (blamed-long mode outcome (judgement .names))
 
 choice-long : (choice : Choice) → Within (choiceLine choice) 8
 unfolding text
@@ -109,7 +111,7 @@ unfolding text choiceText
 chosen-long choice first second =
     let before = counted {bytes = text "first: "} {most = 7} refl in
     let between = counted {bytes = text "second: "} {most = 8} refl in
-    both (both (both (both (choice-long choice) before) (verdict-long first)) between) (verdict-long second)
+    both (both (both (both (choice-long choice) before) (verdict-long Packets first)) between) (verdict-long Packets second)
 
 written-long : (outcome : Outcome) (bytes : ℕ) → Within (writtenLine outcome bytes) 102
 unfolding text writtenLine
@@ -125,7 +127,7 @@ misread-long number place =
     let first = numbered {a = 7} "refused" number (counted refl) in
     let line : Within (decimal 20 place) 20 = record { short = digits-most 20 place } in
     both
-    (both (both (both (both first (counted {bytes = text " "} {most = 1} refl)) line) (counted {bytes = text ": "} {most = 2} refl)) (said-long number (any-long number)))
+    (both (both (both (both first (counted {bytes = text " "} {most = 1} refl)) line) (counted {bytes = text ": "} {most = 2} refl)) (said-long Packets number (any-long number)))
     (counted {bytes = text "\n"} {most = 1} refl)
 
 -- so any answer fits into 256 bytes
@@ -135,8 +137,8 @@ refused-most outcome = omega (arith, refused-long outcome .short)
 pub planned-most : (planned : Planned) → length (plannedLine planned) ≤ 256
 planned-most planned = omega (arith, planned-long planned .short)
 
-pub verdict-most : (judgement : Judgement) → length (verdictLine judgement) ≤ 256
-verdict-most judgement = omega (arith, verdict-long judgement .short)
+pub verdict-most : (mode : Mode) (judgement : Judgement) → length (verdictLine mode judgement) ≤ 256
+verdict-most mode judgement = omega (arith, verdict-long mode judgement .short)
 
 pub chosen-most : (choice : Choice) (first second : Judgement) → length (choiceText choice first second) ≤ 256
 chosen-most choice first second = omega (arith, chosen-long choice first second .short)

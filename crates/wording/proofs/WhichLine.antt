@@ -4,6 +4,7 @@ use mathlib.Core.Bool.{true, false}
 use mathlib.Core.List.{List, _++_}
 use Prim.Native.Nat.{ℕ, min}
 use borrow.Author.Tests.{eq-eqb, ne-eqb}
+use Rattle.meaning.specs.declared.Mode.{Mode}
 use Rattle.meaning.specs.declared.Outcome.{Outcome}
 use Rattle.meaning.specs.declared.Planned.{Planned}
 use Rattle.meaning.specs.declared.Judgement.{Judgement}
@@ -44,12 +45,12 @@ module _ (planned : Planned) where
   unfolding plannedLine
   unplanned-line ne = rw (ne-eqb (planned .outcome .number) 0 ne)
 
-module _ (judgement : Judgement) where
-  pub passed-line : judgement .verdict .outcome .number ≡ 0 → verdictLine judgement ≡ said "passed" (judgement .verdict .slots) ++ text " slots\n"
+module _ (mode : Mode) (judgement : Judgement) where
+  pub passed-line : judgement .verdict .outcome .number ≡ 0 → verdictLine mode judgement ≡ said "passed" (judgement .verdict .slots) ++ text " slots\n"
   unfolding verdictLine
   passed-line e = rw (eq-eqb (judgement .verdict .outcome .number) 0 e)
 
-  pub failed-line : (judgement .verdict .outcome .number ≡ 0 → ⊥) → verdictLine judgement ≡ blamedLine (judgement .verdict .outcome) (judgement .names)
+  pub failed-line : (judgement .verdict .outcome .number ≡ 0 → ⊥) → verdictLine mode judgement ≡ blamedLine mode (judgement .verdict .outcome) (judgement .names)
   unfolding verdictLine
   failed-line ne = rw (ne-eqb (judgement .verdict .outcome .number) 0 ne)
 

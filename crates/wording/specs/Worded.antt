@@ -3,6 +3,8 @@ use mathlib.Core.Bool.{Bool, cond, _&&_}
 use mathlib.Core.List.{[], _++_}
 use Prim.Native.Nat.{ℕ, min}
 use lib.Dec.{eqb, ltb}
+use Rattle.meaning.specs.declared.Mode.{Mode}
+use Rattle.meaning.specs.declared.Mode.the-variants.{Packets}
 use Rattle.meaning.specs.declared.Outcome.{Outcome}
 use Rattle.meaning.specs.declared.Planned.{Planned}
 use Rattle.meaning.specs.declared.Names.{Names}
@@ -12,7 +14,7 @@ use Rattle.meaning.specs.declared.Choice.the-variants.{Neither, First, Second}
 use Rattle.meaning.specs.Words.{Bytes}
 use Rattle.meaning.specs.Answer.{isAccepted}
 use Rattle.meaning.specs.Lister.{text, decimal, said, refusal}
-use Rattle.sayings.specs.Saying.{saying}
+use Rattle.sayings.specs.Saying.{sayingIn}
 
 -- "Whom a refusal names": 12 to 15 are said of senders of a slot
 abbrev pub ofSenders : (number : ℕ) → Bool
@@ -22,9 +24,9 @@ ofSenders number = ltb 11 number && ltb number 16
 unfoldable pub subject : (number : ℕ) → (senders : Bytes) → Bytes
 subject number senders = cond (ofSenders number) senders []
 
--- what a number says of them
-abbrev pub saidOf : (number : ℕ) → (senders : Bytes) → Bytes
-saidOf number senders = subject number senders ++ saying number
+-- what a number says of them, in a mode
+abbrev pub saidOf : Mode → (number : ℕ) → (senders : Bytes) → Bytes
+saidOf mode number senders = subject number senders ++ sayingIn mode number
 
 -- 15 is said of two senders, and the others of one
 unfoldable pub oneOrTwo : (number : ℕ) → (two one : Bytes) → Bytes
@@ -43,16 +45,16 @@ abbrev pub namedSenders : Outcome → Names → Bytes
 namedSenders outcome names = theSenders (outcome .number) names ++ said " of slot" (outcome .place)
 
 -- "Numbers returned": a refusal's number and place, and the number in plain words, which 12 to 15 say of these senders
-abbrev pub refusedOf : Outcome → (senders : Bytes) → Bytes
-refusedOf outcome senders = refusal outcome ++ text ": " ++ saidOf (outcome .number) senders ++ text "\n"
+abbrev pub refusedOf : Mode → Outcome → (senders : Bytes) → Bytes
+refusedOf mode outcome senders = refusal outcome ++ text ": " ++ saidOf mode (outcome .number) senders ++ text "\n"
 
 -- "Numbers returned": the line of a refusal that names nobody
 unfoldable pub refusedLine : Outcome → Bytes
-refusedLine outcome = refusedOf outcome (anySenders (outcome .number))
+refusedLine outcome = refusedOf Packets outcome (anySenders (outcome .number))
 
--- "Whom a refusal names": the line of a refusal by the judge
-unfoldable pub blamedLine : Outcome → Names → Bytes
-blamedLine outcome names = refusedOf outcome (namedSenders outcome names)
+-- "Whom a refusal names": the line of a refusal by the judge of a mode
+unfoldable pub blamedLine : Mode → Outcome → Names → Bytes
+blamedLine mode outcome names = refusedOf mode outcome (namedSenders outcome names)
 
 -- "Numbers returned": what a planner answers; more bytes than 65,535, which no plan of ours has, count as 65,535
 unfoldable pub plannedLine : Planned → Bytes
@@ -61,12 +63,12 @@ plannedLine planned =
     (said "planned" (planned .slots) ++ said " slots," (planned .colours) ++ said " colours," (min (planned .bytes) 65535) ++ text " bytes\n")
     (refusedLine (planned .outcome))
 
--- "Numbers returned", "Whom a refusal names": what the judge answers
-unfoldable pub verdictLine : Judgement → Bytes
-verdictLine judgement =
+-- "Numbers returned", "Whom a refusal names": what the judge of a mode answers
+unfoldable pub verdictLine : Mode → Judgement → Bytes
+verdictLine mode judgement =
     cond (isAccepted (judgement .verdict .outcome))
     (said "passed" (judgement .verdict .slots) ++ text " slots\n")
-    (blamedLine (judgement .verdict .outcome) (judgement .names))
+    (blamedLine mode (judgement .verdict .outcome) (judgement .names))
 
 -- "Numbers returned": which of two plans the chooser hands back
 abbrev pub choiceLine : Choice → Bytes
@@ -77,7 +79,7 @@ choiceLine Neither = text "neither\n"
 -- "Numbers returned": the choice, and the judge's answer on each of the two plans
 unfoldable pub choiceText : Choice → (first second : Judgement) → Bytes
 choiceText choice first second =
-    choiceLine choice ++ text "first: " ++ verdictLine first ++ text "second: " ++ verdictLine second
+    choiceLine choice ++ text "first: " ++ verdictLine Packets first ++ text "second: " ++ verdictLine Packets second
 
 -- "The answers in words": what is said where a text, a sheet or a book is written
 unfoldable pub writtenLine : Outcome → (bytes : ℕ) → Bytes
@@ -86,4 +88,4 @@ writtenLine outcome bytes = cond (isAccepted outcome) (text "written " ++ decima
 -- "The answers in words": the refusal of a text, whose place may have twenty digits
 unfoldable pub misreadLine : (number place : ℕ) → Bytes
 misreadLine number place =
-    said "refused" number ++ text " " ++ decimal 20 place ++ text ": " ++ saidOf number (anySenders number) ++ text "\n"
+    said "refused" number ++ text " " ++ decimal 20 place ++ text ": " ++ saidOf Packets number (anySenders number) ++ text "\n"

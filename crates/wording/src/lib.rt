@@ -9,6 +9,7 @@ ghost use Rattle.wording.specs.Worded.{ofSenders, subject, saidOf, anySe
 ghost use Rattle.wording.specs.Fits.{Fits};
 use meaning::Choice;
 use meaning::Judgement;
+use meaning::Mode;
 use meaning::Names;
 use meaning::Outcome;
 use meaning::Planned;
@@ -38,7 +39,7 @@ fn put_any_senders(number: u8, out: &mut [u8], at: usize) -> usize
 
 // Puts what a number says, where nobody is named, at a place; says where it ends.
 fn put_said_of_any(number: u8, out: &mut [u8], at: usize) -> usize
-    ensures { λ r. ⌜ Fits (now (out .entry)) at (saidOf number (anySenders number)) (now (out .exit)) r ⌝ }
+    ensures { λ r. ⌜ Fits (now (out .entry)) at (saidOf Mode.Packets number (anySenders number)) (now (out .exit)) r ⌝ }
 {
     let a = put_any_senders(number, out, at);
     sayings::put_saying(number, out, a)
@@ -88,13 +89,13 @@ fn put_refused(outcome: Outcome, out: &mut [u8], at: usize) -> usize
     lines::put_words(b"\n", out, b)
 }
 
-// Puts the line of a refusal by the judge at a place; says where it ends.
-fn put_blamed(outcome: Outcome, names: Names, out: &mut [u8], at: usize) -> usize
-    ensures { λ r. ⌜ Fits (now (out .entry)) at (blamedLine outcome names) (now (out .exit)) r ⌝ }
+// Puts the line of a refusal by the judge of a mode at a place; says where it ends.
+fn put_blamed(mode: Mode, outcome: Outcome, names: Names, out: &mut [u8], at: usize) -> usize
+    ensures { λ r. ⌜ Fits (now (out .entry)) at (blamedLine mode outcome names) (now (out .exit)) r ⌝ }
 {
     let a = put_refusal(outcome, out, at);
     let b = put_named_senders(outcome, names, out, a);
-    let d = sayings::put_saying(outcome.number, out, b);
+    let d = sayings::put_saying_in(mode, outcome.number, out, b);
     lines::put_words(b"\n", out, d)
 }
 
@@ -122,15 +123,15 @@ fn put_planned(planned: Planned, out: &mut [u8], at: usize) -> usize
     lines::put_words(b" bytes\n", out, d)
 }
 
-// Puts the line of the judge's answer at a place; says where it ends.
-fn put_verdict(judgement: Judgement, out: &mut [u8], at: usize) -> usize
-    ensures { λ r. ⌜ Fits (now (out .entry)) at (verdictLine judgement) (now (out .exit)) r ⌝ }
+// Puts the line of the answer of a mode's judge at a place; says where it ends.
+fn put_verdict(mode: Mode, judgement: Judgement, out: &mut [u8], at: usize) -> usize
+    ensures { λ r. ⌜ Fits (now (out .entry)) at (verdictLine mode judgement) (now (out .exit)) r ⌝ }
 {
     let verdict = judgement.verdict;
     let outcome = verdict.outcome;
     if outcome.number != 0 {
         let names = judgement.names;
-        return put_blamed(outcome, names, out, at);
+        return put_blamed(mode, outcome, names, out, at);
     }
     let a = lines::put_counted(b"passed ", verdict.slots, out, at);
     lines::put_words(b" slots\n", out, a)
@@ -159,9 +160,9 @@ fn put_chosen(
 {
     let a = put_choice(choice, out, at);
     let b = lines::put_words(b"first: ", out, a);
-    let d = put_verdict(first, out, b);
+    let d = put_verdict(Mode::Packets, first, out, b);
     let e = lines::put_words(b"second: ", out, d);
-    put_verdict(second, out, e)
+    put_verdict(Mode::Packets, second, out, e)
 }
 
 // Puts the line of who writes a text, a sheet or a book at a place; says where it ends.
@@ -210,14 +211,14 @@ pub fn planned(out: &mut [u8], planned: Planned) -> usize
     lines::put_words(&line[..n], out, 0)
 }
 
-// The same of the judge's answer.
-pub fn verdict(out: &mut [u8], judgement: Judgement) -> usize
+// The same of the answer of a mode's judge.
+pub fn verdict(out: &mut [u8], mode: Mode, judgement: Judgement) -> usize
     ensures part { λ r. ⌜ (r ≤ length (now (out .exit))) × (r ≡ length (take r (now (out .exit)))) ⌝ }
-    ensures answer { λ r. ⌜ r ≡ lineLength (now (out .entry)) (verdictLine judgement) ⌝ }
-    ensures buffer { λ _. ⌜ now (out .exit) ≡ lineIn (now (out .entry)) (verdictLine judgement) ⌝ }
+    ensures answer { λ r. ⌜ r ≡ lineLength (now (out .entry)) (verdictLine mode judgement) ⌝ }
+    ensures buffer { λ _. ⌜ now (out .exit) ≡ lineIn (now (out .entry)) (verdictLine mode judgement) ⌝ }
 {
     let mut line = [0u8; ANY_ANSWER];
-    let n = put_verdict(judgement, &mut line, 0);
+    let n = put_verdict(mode, judgement, &mut line, 0);
     lines::put_words(&line[..n], out, 0)
 }
 

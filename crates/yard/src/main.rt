@@ -1,12 +1,13 @@
-// The front door: answers, plans, judges, chooses, lists, makes wake books, draws graphs and hangs the same probes otherwise, by file names. The first word of an answer is fixed, so that a script can go by it.
+// The front door: answers, plans, judges, chooses, lists, makes wake books, merges readings, draws graphs and hangs the same probes otherwise, by file names.
+// The first word of an answer is fixed, so that a script can go by it.
 use files::ANSWERED;
 use files::FAILED;
 use files::REFUSED;
 use libc::STDERR_FILENO;
 use libc::STDOUT_FILENO;
 use meaning::Choice;
+use meaning::Mode;
 use meaning::Outcome;
-use meaning::Planned;
 use meaning::Told;
 
 // The arguments; in front of them stands what the starting script knows of an output (`files`).
@@ -33,6 +34,9 @@ enum Command {
     Worst,
     Best,
     Book,
+    Merged,
+    MergedJudge,
+    MergedAsk,
     Help,
     Version,
     Unknown,
@@ -50,8 +54,9 @@ fn slot_length() -> u16 {
 
 // The command of a word.
 fn command_named(word: &[u8]) -> Command {
-    let names = b"ask list probe level judge choose graph table worst best book --help --version";
-    match grammar::place_of(names, 13, word) {
+    let names =
+        b"ask list probe level judge choose graph table worst best book merged merged-judge merged-ask --help --version";
+    match grammar::place_of(names, 16, word) {
         0 => Command::Ask,
         1 => Command::List,
         2 => Command::ByProbe,
@@ -63,16 +68,25 @@ fn command_named(word: &[u8]) -> Command {
         8 => Command::Worst,
         9 => Command::Best,
         10 => Command::Book,
-        11 => Command::Help,
-        12 => Command::Version,
+        11 => Command::Merged,
+        12 => Command::MergedJudge,
+        13 => Command::MergedAsk,
+        14 => Command::Help,
+        15 => Command::Version,
         _ => Command::Unknown,
     }
+}
+
+// Whether a sheet stands there, and behind it nothing or a slot's length.
+fn is_asked(count: usize) -> bool {
+    count == 4 || count == 5 && slot_length() != 0
 }
 
 // Whether as many words stand as a command wants.
 fn is_complete(what: Command, count: usize) -> bool {
     match what {
-        Command::Ask => count == 4 || count == 5 && slot_length() != 0,
+        Command::Ask => is_asked(count),
+        Command::MergedAsk => is_asked(count),
         Command::List => count == 4,
         Command::Table => count == 4,
         Command::Choose => count == 6 || count == 7,
@@ -154,40 +168,16 @@ fn list(sheet: &[u8]) -> u8 {
     files::say_answer(STDOUT_FILENO, &text[..n], outcome)
 }
 
-// Writes the plan that was made to its file, and says what it has; a refusal leaves the file alone.
-fn write_plan(to: i32, planned: Planned, plan: &[u8]) -> u8 {
-    let outcome = planned.outcome;
-    if outcome.number == 0 {
-        let n = files::within(planned.bytes, plan);
-        if files::write_file(to, PLAN, &plan[..n]) != ANSWERED {
-            return FAILED;
-        }
-    }
-    let mut line = [0u8; wording::ANY_ANSWER];
-    let m = wording::planned(&mut line, planned);
-    files::say_answer(to, &line[..m], outcome)
-}
-
 fn plan_by_probe(to: i32, sheet: &[u8]) -> u8 {
     let mut plan = files::plan_room();
     let planned = plan::by_probe(sheet, &mut plan);
-    write_plan(to, planned, &plan)
+    plans::write_planned(to, PLAN, planned, &plan)
 }
 
 fn plan_by_level(to: i32, sheet: &[u8]) -> u8 {
     let mut plan = files::plan_room();
     let planned = plan::by_level(sheet, &mut plan);
-    write_plan(to, planned, &plan)
-}
-
-// Says what the judge says of a plan.
-fn say_verdict(sheet: &[u8], plan: &[u8]) -> u8 {
-    let judgement = judge::judgement(sheet, plan);
-    let verdict = judgement.verdict;
-    let outcome = verdict.outcome;
-    let mut line = [0u8; wording::ANY_ANSWER];
-    let m = wording::verdict(&mut line, judgement);
-    files::say_answer(STDOUT_FILENO, &line[..m], outcome)
+    plans::write_planned(to, PLAN, planned, &plan)
 }
 
 // Judges the plan in a file; its first 96,032 bytes decide every verdict.
@@ -198,7 +188,18 @@ fn judge(sheet: &[u8]) -> u8 {
         return FAILED;
     }
     let n = io::count(got, &plan);
-    say_verdict(sheet, &plan[..n])
+    plans::say_judgement(Mode::Packets, judge::judgement(sheet, &plan[..n]))
+}
+
+// Judges the merged plan in a file; its first 65,855 bytes decide every verdict.
+fn judge_merged(sheet: &[u8]) -> u8 {
+    let mut plan = plans::merged_room();
+    let got = files::read_file(STDOUT_FILENO, PLAN, &mut plan);
+    if got < 0 {
+        return FAILED;
+    }
+    let n = io::count(got, &plan);
+    plans::say_judgement(Mode::Merged, judge::merged_judgement(sheet, &plan[..n]))
 }
 
 // Makes the wake book of the plan in a file: into a file where one is named, else in words.
@@ -273,6 +274,7 @@ fn words_to(what: Command) -> i32 {
     let is_plan = match what {
         Command::ByProbe => is_dash_argument(PLAN),
         Command::ByLevel => is_dash_argument(PLAN),
+        Command::Merged => is_dash_argument(PLAN),
         Command::Graph => is_dash_argument(PLAN),
         Command::Worst => is_dash_argument(PLAN),
         Command::Best => is_dash_argument(PLAN),
@@ -317,6 +319,9 @@ fn answer_on(what: Command, to: i32, sheet: &[u8]) -> u8 {
         Command::Worst => hang_worst(to, sheet),
         Command::Best => hang_best(to, sheet),
         Command::Book => book(to, sheet),
+        Command::Merged => plans::write_merged(to, PLAN, sheet),
+        Command::MergedJudge => judge_merged(sheet),
+        Command::MergedAsk => plans::say_merged_asked(sheet, slot_length()),
         _ => FAILED,
     }
 }
@@ -344,18 +349,21 @@ fn answer_or_show(what: Command) -> u8 {
 fn say_usage(to: i32, status: u8) -> u8 {
     files::say(
         to,
-        b"usage: yard ask SHEET [MILLISECONDS]      how long a reading takes; of slots of 1 to 60000 ms also in minutes\n\
-            \x20      yard list SHEET                    the plan by probe, as text\n\
-            \x20      yard probe SHEET PLAN              the plan by probe, into the file PLAN\n\
-            \x20      yard level SHEET PLAN              the plan by level, into the file PLAN\n\
-            \x20      yard judge SHEET PLAN              whether the plan passes, or who is to blame\n\
-            \x20      yard choose SHEET PLAN PLAN [OUT]  the shorter of two plans that pass, also into the file OUT\n\
-            \x20      yard book SHEET PLAN [BOOK]        when each probe wakes, in words, or as bytes into the file BOOK\n\
-            \x20      yard graph SHEET TEXT              the conflicts as a graph in the DIMACS format, into the file TEXT\n\
-            \x20      yard table TEXT                    a graph's text as a table\n\
-            \x20      yard worst SHEET OUT               the sheet of the worst arrangement of the same probes, into the file OUT\n\
-            \x20      yard best SHEET OUT                the sheet of the best, likewise\n\
-            \x20      yard --help | --version            these lines, or the version\n\
+        b"usage: yard ask SHEET [MILLISECONDS]         how long a reading takes; of slots of 1 to 60000 ms also in minutes\n\
+            \x20      yard list SHEET                       the plan by probe, as text\n\
+            \x20      yard probe SHEET PLAN                 the plan by probe, into the file PLAN\n\
+            \x20      yard level SHEET PLAN                 the plan by level, into the file PLAN\n\
+            \x20      yard judge SHEET PLAN                 whether the plan passes, or who is to blame\n\
+            \x20      yard choose SHEET PLAN PLAN [OUT]     the shorter of two plans that pass, also into the file OUT\n\
+            \x20      yard book SHEET PLAN [BOOK]           when each probe wakes, in words, or as bytes into the file BOOK\n\
+            \x20      yard merged-ask SHEET [MILLISECONDS]  how long a merged reading takes, in which every probe sends once\n\
+            \x20      yard merged SHEET PLAN                the plan of merged readings, into the file PLAN\n\
+            \x20      yard merged-judge SHEET PLAN          whether a plan of merged readings passes, or who is to blame\n\
+            \x20      yard graph SHEET TEXT                 the conflicts as a graph in the DIMACS format, into the file TEXT\n\
+            \x20      yard table TEXT                       a graph's text as a table\n\
+            \x20      yard worst SHEET OUT                  the sheet of the worst arrangement of the same probes, into the file OUT\n\
+            \x20      yard best SHEET OUT                   the sheet of the best, likewise\n\
+            \x20      yard --help | --version               these lines, or the version\n\
             One of the files may be -: standard input or, for what is made, standard output.\n",
         status,
     )
@@ -368,7 +376,7 @@ fn run() -> u8 {
     let what = command_of(&word[..n], os::arg_count());
     match what {
         Command::Help => say_usage(STDOUT_FILENO, ANSWERED),
-        Command::Version => files::say(STDOUT_FILENO, b"yard 3.1\n", ANSWERED),
+        Command::Version => files::say(STDOUT_FILENO, b"yard 3.2\n", ANSWERED),
         Command::Unknown => say_usage(STDERR_FILENO, FAILED),
         _ => {
             if is_dash_twice() {

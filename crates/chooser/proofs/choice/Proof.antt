@@ -2,7 +2,7 @@
 use mathlib.Core.Path.{ap}
 use Rattle.meaning.specs.declared.Verdict.{Verdict}
 use Rattle.meaning.specs.declared.Judgement.{Judgement}
-use Rattle.meaning.specs.Judge.{judgement}
+use Rattle.meaning.specs.Judge.{judgementIn}
 use Rattle.chooser.proofs.Choosing.{chosen}
 use borrow.Author.Needs.{needs}
 use Rattle.chooser.proofs.choice.Statement.{statement}
@@ -21,7 +21,7 @@ choose-by-requires : tie.Need-choose-by-requires
 choose-by-requires c κs = search needs
 
 returns : tie.Need-returns
-unfolding judgement
+unfolding judgementIn
 returns c =
     let second = c .before in
     let first = second .before in

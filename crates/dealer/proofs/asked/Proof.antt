@@ -4,7 +4,8 @@ use mathlib.Core.List.{List}
 use Prim.Native.Nat.{ℕ}
 use borrow.Author.Needs.{needs}
 use Rattle.wording.proofs.Wordings.{Answered, line-end, line-counts, answered}
-use Rattle.dealer.proofs.Spoken.{asked-sentences, asked-refused, sentences-most}
+use Rattle.dealer.specs.Sentences.{sentences, askedText}
+use Rattle.dealer.proofs.Spoken.{sheet-answered, sheet-refused, sentences-most}
 use Rattle.dealer.proofs.asked.Statement.{statement}
 use Rattle.dealer.proofs.asked.Tie as tie
 
@@ -15,12 +16,13 @@ same-length : tie.Need-same-length
 same-length c = search needs
 
 returns : tie.Need-returns
+unfolding askedText
 returns c =
     let said = c .before .before in
     let test = said .before .before in
     let a = test .before .before .before .before .args in
     subst (λ (text : List ℕ). Answered (a .out .now) text (c .before .before .refused .last .0) (said .refused .result))
-    (asked-refused (a .told) (a .ms) (test .if1 .taken)) (said .refused .ensures)
+    (sheet-refused (a .told .outcome) (sentences (a .told) (a .ms)) (test .if1 .taken)) (said .refused .ensures)
 
 slice-aggregate-put-sentences : tie.Need-slice-aggregate-put-sentences
 slice-aggregate-put-sentences c = search needs
@@ -47,13 +49,14 @@ same-length-2 : tie.Need-same-length-2
 same-length-2 c = search needs
 
 returns-2 : tie.Need-returns-2
+unfolding askedText
 returns-2 c =
     let copy = c .before .before in
     let put = copy .before .before .before .before in
     let test = put .before .before in
     let a = test .before .before .before .before .args in
     subst (λ (text : List ℕ). Answered (a .out .now) text (copy .put-words .last .1 .0) (copy .put-words .result))
-    (asked-sentences (a .told) (a .ms) (test .if1 .left))
+    (sheet-answered (a .told .outcome) (sentences (a .told) (a .ms)) (test .if1 .left))
     (answered (sentences-most (a .told) (a .ms)) (put .put-sentences .ensures) (copy .put-words .ensures))
 
 pub asked-spec : {M : Type 1} → statement M

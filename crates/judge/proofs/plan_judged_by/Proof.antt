@@ -1,12 +1,8 @@
 -- `judge::plan_judged_by` meets its contract: the slots decide and name, then 16, then 17, which name nobody.
-use mathlib.Core.Path.{refl, sym, ap, subst}
-use mathlib.Core.List.{List}
+use mathlib.Core.Path.{refl, ap}
 use mathlib.Core.Logic.{inl, inr}
-use Prim.Native.Nat.{ℕ}
 use native.Mathlib.Omega.{arith}
-use lib.ListN.{getD}
 use Rattle.meaning.specs.declared.Tested.{Tested}
-use Rattle.judge.specs.SlotTurn.{Ready}
 use Rattle.judge.proofs.Judging.{slots-decide, slots-name, gives-16, gives-17, gives-0, unnamed-plan}
 use borrow.Author.Needs.{needs}
 use Rattle.judge.proofs.plan_judged_by.Statement.{statement}
@@ -15,22 +11,15 @@ use Rattle.judge.proofs.plan_judged_by.Tie as tie
 slot-count-requires : tie.Need-slot-count-requires
 slot-count-requires c κs = search needs
 
-wide-requires : tie.Need-wide-requires
-wide-requires c κs = search needs
-
 slots-judged-requires : tie.Need-slots-judged-requires
-slots-judged-requires c κs =
-    let start = c .before .before .before .before in
-    let a = start .args in
-    (start .pre .0, subst (λ (l : List ℕ). Ready (a .p) (λ u. getD (a .parents .now) u 0) l) (sym (c .before .wide .ensures)) (start .pre .1))
+slots-judged-requires c κs = c .before .before .before .pre
 
 returns : tie.Need-returns
 returns c =
     let end = c .before .before .before .before in
-    let many = end .before .before .before .slot-count .ensures .0 in
-    let start = end .before .before .wide .ensures in
+    let many = end .before .before .slot-count .ensures .0 in
     let judged = end .slots-judged .ensures in
-    (slots-decide _ _ _ _ _ _ many _ start _ _ _ (judged .0) (c .if1 .taken), slots-name _ _ _ _ _ _ many _ start _ _ _ (judged .0) _ _ (judged .1))
+    (slots-decide _ _ _ _ _ _ _ many _ _ _ (judged .0) (c .if1 .taken), slots-name _ _ _ _ _ _ _ many _ _ _ (judged .0) _ _ (judged .1))
 
 unnamed-requires : tie.Need-unnamed-requires
 unnamed-requires c κs = search needs
@@ -39,9 +28,9 @@ returns-2 : tie.Need-returns-2
 returns-2 c =
     let end = c .before .before .before .before .before .before .before in
     let is = c .unnamed .ensures in (
-      gives-16 _ _ _ _ _ _ (end .before .before .before .slot-count .ensures .0) _ (end .before .before .wide .ensures) _ _ _ (end .slots-judged .ensures .0)
+      gives-16 _ _ _ _ _ _ _ (end .before .before .slot-count .ensures .0) _ _ _ (end .slots-judged .ensures .0)
           (c .before .before .before .if1 .left) _ (ap (λ (t : Tested). t .outcome) is) (c .before .if2 .taken),
-      unnamed-plan _ _ _ _ _ _ _ _ is (inr (omega arith)),
+      unnamed-plan _ _ _ _ _ _ _ _ _ is (inr (omega arith)),
     )
 
 any-outside-requires : tie.Need-any-outside-requires
@@ -53,22 +42,22 @@ unnamed-requires-2 c κs = search needs
 returns-3 : tie.Need-returns-3
 returns-3 c =
     let end = c .before .before .before .before .before .before .before .before .before .before in
-    let counted = end .before .before .before in
+    let counted = end .before .before in
     let is = c .unnamed2 .ensures in (
-      gives-17 _ _ _ _ _ _ (counted .slot-count .ensures .0) _ (end .before .before .wide .ensures) _ _ _ (end .slots-judged .ensures .0)
+      gives-17 _ _ _ _ _ _ _ (counted .slot-count .ensures .0) _ _ _ (end .slots-judged .ensures .0)
           (c .before .before .before .before .before .before .if1 .left) (counted .before .before .pre .1 .few) (c .before .before .before .before .if2 .left)
           _ (c .before .before .any-outside .ensures) _ (ap (λ (t : Tested). t .outcome) is) (c .before .if3 .taken),
-      unnamed-plan _ _ _ _ _ _ _ _ is (inr (omega arith)),
+      unnamed-plan _ _ _ _ _ _ _ _ _ is (inr (omega arith)),
     )
 
 returns-4 : tie.Need-returns-4
 returns-4 c =
     let end = c .before .before .before .before .before .before .before .before .before in
-    let counted = end .before .before .before in (
-      gives-0 _ _ _ _ _ _ (counted .slot-count .ensures .0) _ (end .before .before .wide .ensures) _ _ _ (end .slots-judged .ensures .0)
+    let counted = end .before .before in (
+      gives-0 _ _ _ _ _ _ _ (counted .slot-count .ensures .0) _ _ _ (end .slots-judged .ensures .0)
           (c .before .before .before .before .before .if1 .left) (counted .before .before .pre .1 .few) (c .before .before .before .if2 .left)
           _ (c .before .any-outside .ensures) _ refl (c .if3 .left),
-      unnamed-plan _ _ _ _ _ _ 0 0 refl (inl (omega arith)),
+      unnamed-plan _ _ _ _ _ _ _ 0 0 refl (inl (omega arith)),
     )
 
 pub plan-judged-by-spec : {M : Type 1} → statement M
@@ -76,7 +65,6 @@ plan-judged-by-spec =
     tie.close
     (tie.spec
     slot-count-requires
-    wide-requires
     slots-judged-requires
     returns
     unnamed-requires

@@ -13,19 +13,20 @@ use Rattle.judge.proofs.slots_judged.Statement.{statement}
 use Rattle.judge.proofs.slots_judged.Tie as tie
 
 abbrev Inv-loop : tie.InvT-loop
-Inv-loop p parents table plan many held₀ tested₀ at₀ k₀ held tested at k =
-    Going p (byNode parents) (entry table) plan many held₀ k (tested .outcome) at held × (tested .names ≡ nobody)
+Inv-loop mode p parents table plan many held₀ tested₀ at₀ k₀ held tested at k =
+    Going mode p (byNode parents) (entry table) plan many held₀ k (tested .outcome) at held × (tested .names ≡ nobody)
 
 abbrev μ-loop : tie.MeasureT-loop
-μ-loop p parents table plan many held₀ tested₀ at₀ k₀ held tested at k = many - k
+μ-loop mode p parents table plan many held₀ tested₀ at₀ k₀ held tested at k = many - k
 
 loop-holds : tie.Need-loop-holds Inv-loop μ-loop
 loop-holds c =
     let a = c .before .args in
-    (going-starts (a .p) (byNode (a .parents .now)) (entry (a .table .now)) (a .plan .now) (a .many) (a .held .now) (c .before .pre .0) (c .before .pre .1), refl)
+    let pre = c .before .pre in
+    (going-starts (a .mode) (a .p) (byNode (a .parents .now)) (entry (a .table .now)) (a .plan .now) (a .many) (a .held .now) (pre .0) (pre .1), refl)
 
-add-t15 : tie.Need-add-t15 Inv-loop μ-loop
-add-t15 c = search needs
+add-t16 : tie.Need-add-t16 Inv-loop μ-loop
+add-t16 c = search needs
 
 slot-judged-requires : tie.Need-slot-judged-requires Inv-loop μ-loop
 slot-judged-requires c κs = let so = c .before .before .loop .inv .0 in (so .inside, so .ready)
@@ -34,7 +35,7 @@ returns : tie.Need-returns Inv-loop μ-loop
 returns c =
     let one = c .before .before .before .before .slot-judged in
     let test = c .before .before .before .before .before .before in
-    (going-stops _ _ _ _ (test .before .loop .inv .0) (test .loop-test .taken) _ _ _ (one .ensures .0) (c .if1 .taken), one .ensures .1)
+    (going-stops _ _ _ _ _ (test .before .loop .inv .0) (test .loop-test .taken) _ _ _ (one .ensures .0) (c .if1 .taken), one .ensures .1)
 
 add-k : tie.Need-add-k Inv-loop μ-loop
 add-k c = search needs
@@ -46,14 +47,14 @@ loop-again : tie.Need-loop-again Inv-loop μ-loop
 loop-again c =
     let one = c .before .before .before .before .slot-judged in
     let test = c .before .before .before .before .before .before in (
-      going-on _ _ _ _ (test .before .loop .inv .0) (test .loop-test .taken) _ _ _ (one .ensures .0) (c .if1 .left),
+      going-on _ _ _ _ _ (test .before .loop .inv .0) (test .loop-test .taken) _ _ _ (one .ensures .0) (c .if1 .left),
       one .ensures .1 ∙ names-else _ _ _ _ _ (inl (omega (arith, c .if1 .left))),
     )
 
 returns-2 : tie.Need-returns-2 Inv-loop μ-loop
 returns-2 c =
     let l = c .before .loop in
-    (going-ends _ _ _ _ (l .inv .0) (c .loop-test .left), l .inv .1 ∙ sym (names-else _ _ _ _ _ (inl (omega (arith, l .inv .0 .clean)))))
+    (going-ends _ _ _ _ _ (l .inv .0) (c .loop-test .left), l .inv .1 ∙ sym (names-else _ _ _ _ _ (inl (omega (arith, l .inv .0 .clean)))))
 
 pub slots-judged-spec : {M : Type 1} → statement M
 slots-judged-spec =
@@ -62,7 +63,7 @@ slots-judged-spec =
     Inv-loop
     μ-loop
     loop-holds
-    add-t15
+    add-t16
     slot-judged-requires
     returns
     add-k

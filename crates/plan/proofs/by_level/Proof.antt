@@ -1,6 +1,7 @@
 -- `plan::by_level` meets its contract: a refusal is what the tests say, and the plan made in the code's way is the plan by level.
 use mathlib.Core.Path.{_∙_}
 use borrow.Author.Needs.{needs}
+use Rattle.meaning.specs.declared.Mode.the-variants.{Packets}
 use Rattle.meaning.specs.Rounds.{byLevel}
 use Rattle.plan.proofs.Answered.{refuses, to-fill, by-level, finishes}
 use Rattle.plan.proofs.by_level.Statement.{statement}
@@ -16,7 +17,7 @@ returns : tie.Need-returns
 returns c =
     let start = c .before .before .before .before .before .before .before in
     let tree = c .before .before .before .before .prepare in
-    let refused = refuses (start .args .sheet .now) (start .args .buf .now) (tree .result) (tree .ensures) byLevel (c .before .if1 .taken) in
+    let refused = refuses Packets (start .args .sheet .now) (start .args .buf .now) (tree .result) (tree .ensures) byLevel (c .before .if1 .taken) in
     (c .refused-plan .ensures ∙ refused .0, refused .1)
 
 conflicts-requires : tie.Need-conflicts-requires
@@ -42,7 +43,7 @@ finish-requires c κs =
     let passed = c .before .before .before .before .before .before .before .before .before .before in
     let start = passed .before .before .before .before .before .before in
     let tree = passed .before .before .before .prepare in
-    to-fill (start .args .sheet .now) (start .args .buf .now) (tree .result) (tree .ensures) (passed .if1 .left)
+    to-fill Packets (start .args .sheet .now) (start .args .buf .now) (tree .result) (tree .ensures) (passed .if1 .left)
 
 same-length : tie.Need-same-length
 same-length c = search needs
@@ -64,7 +65,7 @@ returns-2 c =
     by-level s buffer (tree .result) (tree .ensures) (passed .if1 .left) _ (table .ensures) (depth .result) _ (coloured .result) (own .result) (used .result)
     (depth .ensures) (above .ensures) (coloured .ensures) (own .ensures) (used .ensures)
     in
-    finishes s buffer (tree .result) (tree .ensures) (passed .if1 .left) byLevel _ _ _ _ (plan .0) (plan .1) (c .before .before .finish .ensures)
+    finishes Packets s buffer (tree .result) (tree .ensures) (passed .if1 .left) byLevel _ _ _ _ (plan .0) (plan .1) (c .before .before .finish .ensures)
 
 pub by-level-spec : {M : Type 1} → statement M
 by-level-spec =

@@ -1,68 +1,31 @@
--- `plan::by_probe` meets its contract: a refusal is what the tests say, and the plan made in the code's way is the plan by probe.
-use mathlib.Core.Path.{_∙_}
+-- `plan::by_probe` meets its contract: it is the plan by probe in its mode.
+use mathlib.Core.Path.{ap, _∙_}
+use mathlib.Core.List.{List}
+use Prim.Native.Nat.{ℕ}
+use lib.ListN.{length}
+use Rattle.meaning.specs.declared.Mode.the-variants.{Packets}
+use Rattle.meaning.specs.Plan.{front}
+use Rattle.meaning.specs.Rounds.{Way}
+use Rattle.meaning.specs.Answer.{planMadeIn}
+use Rattle.plan.proofs.Answered.{of-packets}
 use borrow.Author.Needs.{needs}
-use Rattle.meaning.specs.Rounds.{byProbe}
-use Rattle.plan.proofs.Answered.{refuses, to-fill, by-probe, finishes}
 use Rattle.plan.proofs.by_probe.Statement.{statement}
 use Rattle.plan.proofs.by_probe.Tie as tie
 
-prepare-requires : tie.Need-prepare-requires
-prepare-requires c κs = search needs
-
-refused-plan-requires : tie.Need-refused-plan-requires
-refused-plan-requires c κs = search needs
-
-returns : tie.Need-returns
-returns c =
-    let start = c .before .before .before .before .before .before .before in
-    let tree = c .before .before .before .before .prepare in
-    let refused = refuses (start .args .sheet .now) (start .args .buf .now) (tree .result) (tree .ensures) byProbe (c .before .if1 .taken) in
-    (c .refused-plan .ensures ∙ refused .0, refused .1)
-
-conflicts-requires : tie.Need-conflicts-requires
-conflicts-requires c κs = search needs
-
-colouring-requires : tie.Need-colouring-requires
-colouring-requires c κs = search needs
-
-used-requires : tie.Need-used-requires
-used-requires c κs = search needs
-
-finish-requires : tie.Need-finish-requires
-finish-requires c κs =
-    let passed = c .before .before .before .before .before in
-    let start = passed .before .before .before .before .before .before in
-    let tree = passed .before .before .before .prepare in
-    to-fill (start .args .sheet .now) (start .args .buf .now) (tree .result) (tree .ensures) (passed .if1 .left)
+by-probe-in-requires : tie.Need-by-probe-in-requires
+by-probe-in-requires c κs = search needs
 
 same-length : tie.Need-same-length
 same-length c = search needs
 
-returns-2 : tie.Need-returns-2
-returns-2 c =
-    let passed = c .before .before .before .before .before .before .before .before in
-    let start = passed .before .before .before .before .before .before in
-    let s = start .args .sheet .now in
-    let buffer = start .args .buf .now in
-    let tree = passed .before .before .before .prepare in
-    let table = c .before .before .before .before .before .before .conflicts in
-    let coloured = c .before .before .before .before .before .colouring in
-    let used = c .before .before .before .before .used in
-    let plan =
-    by-probe s buffer (tree .result) (tree .ensures) (passed .if1 .left) _ (table .ensures) (coloured .result) (used .result) (coloured .ensures) (used .ensures)
-    in
-    finishes s buffer (tree .result) (tree .ensures) (passed .if1 .left) byProbe _ _ _ _ (plan .0) (plan .1) (c .before .before .finish .ensures)
+returns : tie.Need-returns
+returns c =
+    let a = c .before .before .before .before .before .before .args in
+    let made = c .before .before .by-probe-in .ensures in
+    let room = length (a .buf .now) in (
+      made .0 ∙ ap (λ (by : List ℕ → Way). planMadeIn Packets by (a .sheet .now) room .answer) of-packets,
+      made .1 ∙ ap (λ (by : List ℕ → Way). front (a .buf .now) (planMadeIn Packets by (a .sheet .now) room .written)) of-packets,
+    )
 
 pub by-probe-spec : {M : Type 1} → statement M
-by-probe-spec =
-    tie.close
-    (tie.spec
-    prepare-requires
-    refused-plan-requires
-    returns
-    conflicts-requires
-    colouring-requires
-    used-requires
-    finish-requires
-    same-length
-    returns-2)
+by-probe-spec = tie.close (tie.spec by-probe-in-requires same-length returns)

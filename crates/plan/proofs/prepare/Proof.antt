@@ -7,11 +7,16 @@ use Rattle.plan.proofs.prepare.Tie as tie
 read-requires : tie.Need-read-requires
 read-requires c κs = search needs
 
+sendings-in-requires : tie.Need-sendings-in-requires
+sendings-in-requires c κs = search needs
+
 room-test-requires : tie.Need-room-test-requires
 room-test-requires c κs = search needs
 
 returns : tie.Need-returns
-returns c = prepares _ _ (c .before .read .result) _ (c .before .read .ensures) (c .room-test .ensures)
+returns c =
+    let read = c .before .before .read in
+    prepares _ _ _ (read .result) _ _ (read .ensures) (c .before .sendings-in .ensures) (c .room-test .ensures)
 
 pub prepare-spec : {M : Type 1} → statement M
-prepare-spec = tie.close (tie.spec read-requires room-test-requires returns)
+prepare-spec = tie.close (tie.spec read-requires sendings-in-requires room-test-requires returns)

@@ -21,12 +21,12 @@ add-if2 c = search needs
 returns-2 : tie.Need-returns-2
 returns-2 c =
     let a = c .before .before .before .args in
-    room-short (a .outcome) (a .room) (a .hops) (c .before .if1 .left) (c .if2 .taken)
+    room-short (a .outcome) (a .room) (a .sendings) (c .before .if1 .left) (c .if2 .taken)
 
 returns-3 : tie.Need-returns-3
 returns-3 c =
     let a = c .before .before .before .args in
-    room-enough (a .outcome) (a .room) (a .hops) (c .before .if1 .left) (c .if2 .left)
+    room-enough (a .outcome) (a .room) (a .sendings) (c .before .if1 .left) (c .if2 .left)
 
 pub room-test-spec : {M : Type 1} → statement M
 room-test-spec = tie.close (tie.spec returns mul-if2 add-if2 returns-2 returns-3)

@@ -3,7 +3,7 @@ use mathlib.Core.Path.{_≡_, refl, sym, ap, _∙_, subst}
 use Prim.Native.Nat.{ℕ, _-_, _≤_}
 use lib.ListN.{length, take, drop, length-drop}
 use Rattle.meaning.specs.Words.{byNode}
-use Rattle.meaning.specs.Rounds.{Progress}
+use Rattle.meaning.specs.Rounds.{Progress, goesIn}
 use Rattle.plan.specs.ColourTurn.{Ready}
 use Rattle.plan.specs.TurnByTurn.{Going}
 use Rattle.plan.proofs.TurnByTurn.{turns, turns-all, going-start, going-next, going-long, part-from}
@@ -17,19 +17,19 @@ use Rattle.plan.proofs.slots_in.Reads as slots-in-reads
 use Rattle.plan.proofs.turn.Reads as turn-reads
 
 abbrev Inv-loop : tie.InvT-loop
-Inv-loop p parents table own m held₀ rest₀ at₀ slots₀ s₀ held rest at slots s =
-    (s ≤ m) × Going p (byNode parents) (turns p parents table own m s held₀) held rest₀ rest at slots
+Inv-loop mode p parents table own m held₀ rest₀ at₀ slots₀ s₀ held rest at slots s =
+    (s ≤ m) × Going p (goesIn mode (byNode parents)) (turns mode p parents table own m s held₀) held rest₀ rest at slots
 
 abbrev μ-loop : tie.MeasureT-loop
-μ-loop p parents table own m held₀ rest₀ at₀ slots₀ s₀ held rest at slots s = m - s
+μ-loop mode p parents table own m held₀ rest₀ at₀ slots₀ s₀ held rest at slots s = m - s
 
 loop-holds : tie.Need-loop-holds Inv-loop μ-loop
 loop-holds c =
     let a = c .before .args in
-    (search needs, going-start (a .p) (a .parents .now) (a .table .now) (a .own .now) (a .m) (a .held .now) (a .rest .now) (c .before .pre))
+    (search needs, going-start (a .mode) (a .p) (a .parents .now) (a .table .now) (a .own .now) (a .m) (a .held .now) (a .rest .now) (c .before .pre))
 
-add-t13 : tie.Need-add-t13 Inv-loop μ-loop
-add-t13 c = search needs
+add-t14 : tie.Need-add-t14 Inv-loop μ-loop
+add-t14 c = search needs
 
 sub-turn : tie.Need-sub-turn Inv-loop μ-loop
 sub-turn c =
@@ -51,14 +51,14 @@ turn-requires c κs =
     let room : length (a .rest .now) - l .at ≡ length (take (length (l .rest) - l .at) (drop (l .at) (l .rest))) =
     ap (λ (n : ℕ). n - l .at) (sym (going-long (l .inv .1))) ∙ sym (length-drop (l .at) (l .rest)) ∙ ap length (sym (part-from (l .rest) (l .at)))
     in
-    subst (λ (r : ℕ). Ready (a .p) (byNode (a .parents .now)) (l .held) r) room (l .inv .1 .ready)
+    subst (λ (r : ℕ). Ready (a .p) (goesIn (a .mode) (byNode (a .parents .now))) (l .held) r) room (l .inv .1 .ready)
 
 add-at : tie.Need-add-at Inv-loop μ-loop
 add-at c =
     let turn = c .before .before in
     let loop = turn .before .before .before .before in
-    let next = going-next _ _ _ _ _ _ _ _ _ _ _ _ (loop .loop .inv .1) _ _ _ (turn .turn .ensures) _ refl in
-    omega (arith, next .within, loop .before .before .good .1 .1 .1 .1 .1 .1 .0 .0)
+    let next = going-next _ _ _ _ _ _ _ _ _ _ _ _ _ (loop .loop .inv .1) _ _ _ (turn .turn .ensures) _ refl in
+    omega (arith, next .within, loop .before .before .good .1 .1 .1 .1 .1 .1 .1 .0 .0)
 
 slots-in-requires : tie.Need-slots-in-requires Inv-loop μ-loop
 slots-in-requires c κs = search needs
@@ -67,8 +67,8 @@ add-slots : tie.Need-add-slots Inv-loop μ-loop
 add-slots c =
     let turn = c .before .before .before in
     let loop = turn .before .before .before .before in
-    let next = going-next _ _ _ _ _ _ _ _ _ _ _ _ (loop .loop .inv .1) _ _ _ (turn .turn .ensures) _ (c .slots-in .ensures) in
-    omega (arith, next .within, next .fewer, loop .before .before .good .1 .1 .1 .1 .1 .1 .0 .0)
+    let next = going-next _ _ _ _ _ _ _ _ _ _ _ _ _ (loop .loop .inv .1) _ _ _ (turn .turn .ensures) _ (c .slots-in .ensures) in
+    omega (arith, next .within, next .fewer, loop .before .before .good .1 .1 .1 .1 .1 .1 .1 .0 .0)
 
 add-s : tie.Need-add-s Inv-loop μ-loop
 add-s c = search needs
@@ -80,7 +80,7 @@ loop-again : tie.Need-loop-again Inv-loop μ-loop
 loop-again c =
     let turn = c .before .before .before in
     let loop = turn .before .before .before .before in
-    (search needs, going-next _ _ _ _ _ _ _ _ _ _ _ _ (loop .loop .inv .1) _ _ _ (turn .turn .ensures) _ (c .slots-in .ensures))
+    (search needs, going-next _ _ _ _ _ _ _ _ _ _ _ _ _ (loop .loop .inv .1) _ _ _ (turn .turn .ensures) _ (c .slots-in .ensures))
 
 same-length : tie.Need-same-length Inv-loop μ-loop
 same-length c = going-long (c .before .loop .inv .1)
@@ -90,9 +90,9 @@ returns c =
     let a = c .before .before .before .args in
     let l = c .before .loop in
     let all : l .s ≡ a .m = omega (arith, l .inv .0) in
-    subst (λ (now : Progress). Going (a .p) (byNode (a .parents .now)) now (l .held) (a .rest .now) (l .rest) (l .at) (l .slots))
-    (ap (λ (k : ℕ). turns (a .p) (a .parents .now) (a .table .now) (a .own .now) (a .m) k (a .held .now)) all
-    ∙ turns-all (a .p) (a .parents .now) (a .table .now) (a .own .now) (a .m) (a .held .now))
+    subst (λ (now : Progress). Going (a .p) (goesIn (a .mode) (byNode (a .parents .now))) now (l .held) (a .rest .now) (l .rest) (l .at) (l .slots))
+    (ap (λ (k : ℕ). turns (a .mode) (a .p) (a .parents .now) (a .table .now) (a .own .now) (a .m) k (a .held .now)) all
+    ∙ turns-all (a .mode) (a .p) (a .parents .now) (a .table .now) (a .own .now) (a .m) (a .held .now))
     (l .inv .1)
 
 pub round-spec : {M : Type 1} → statement M
@@ -102,7 +102,7 @@ round-spec =
     Inv-loop
     μ-loop
     loop-holds
-    add-t13
+    add-t14
     sub-turn
     part-turn-start
     part-turn-end

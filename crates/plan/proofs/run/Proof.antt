@@ -1,4 +1,4 @@
--- `plan::run` meets its contract: r rounds are made, and while a packet is outside another one follows.
+-- `plan::run` meets its contract: r rounds are made, and while anything is outside another one follows.
 use mathlib.Core.Path.{_≡_, sym, ap, _∙_, subst}
 use mathlib.Core.Bool.{Bool, true, false, not}
 use mathlib.Core.List.{List}
@@ -6,7 +6,7 @@ use Prim.Native.Nat.{ℕ, _+_, _-_, _≤_}
 use borrow.Author.Tests.{not-true, not-false}
 use lib.ListN.{length, take, drop, length-drop}
 use Rattle.meaning.specs.Words.{byNode}
-use Rattle.meaning.specs.Rounds.{Progress, outside, rounds}
+use Rattle.meaning.specs.Rounds.{Progress, goesIn, outside, rounds}
 use Rattle.laws.specs.Few.{atMost63}
 use Rattle.laws.proofs.Few.{as-many}
 use Rattle.plan.specs.ColourTurn.{Ready}
@@ -29,16 +29,16 @@ still-outside : (p : ℕ) (held : List ℕ) (r : Bool) → p ≤ 63 → r ≡ ou
 still-outside p held r small e n = sym (within-yard p held r small e) ∙ not-false r n
 
 abbrev Inv-loop : tie.InvT-loop
-Inv-loop p parents table own m hops held₀ rest₀ at₀ slots₀ r₀ held rest at slots r =
-    (r ≤ hops) × Going p (byNode parents) (rounds (wayBy p parents table own m) r (from held₀)) held rest₀ rest at slots
+Inv-loop mode p parents table own m sendings held₀ rest₀ at₀ slots₀ r₀ held rest at slots r =
+    (r ≤ sendings) × Going p (goesIn mode (byNode parents)) (rounds (wayBy mode p parents table own m) r (from held₀)) held rest₀ rest at slots
 
 abbrev μ-loop : tie.MeasureT-loop
-μ-loop p parents table own m hops held₀ rest₀ at₀ slots₀ r₀ held rest at slots r = hops - r
+μ-loop mode p parents table own m sendings held₀ rest₀ at₀ slots₀ r₀ held rest at slots r = sendings - r
 
 loop-holds : tie.Need-loop-holds Inv-loop μ-loop
 loop-holds c =
     let a = c .before .args in
-    (search needs, rounds-start (a .p) (a .parents .now) (a .table .now) (a .own .now) (a .m) (a .held .now) (a .rest .now) (c .before .pre))
+    (search needs, rounds-start (a .mode) (a .p) (a .parents .now) (a .table .now) (a .own .now) (a .m) (a .held .now) (a .rest .now) (c .before .pre))
 
 any-outside-requires : tie.Need-any-outside-requires Inv-loop μ-loop
 any-outside-requires c κs = search needs
@@ -50,12 +50,12 @@ returns : tie.Need-returns Inv-loop μ-loop
 returns c =
     let a = c .before .before .before .before .before .before .args in
     let l = c .before .before .before .before .loop in
-    let home : outside (a .p) (rounds (wayBy (a .p) (a .parents .now) (a .table .now) (a .own .now) (a .m)) (l .r) (from (a .held .now)) .held) ≡ false =
+    let home : outside (a .p) (rounds (wayBy (a .mode) (a .p) (a .parents .now) (a .table .now) (a .own .now) (a .m)) (l .r) (from (a .held .now)) .held) ≡ false =
     subst (λ (h : List ℕ). outside (a .p) h ≡ false) (l .inv .1 .holding)
     (sym (within-yard (a .p) (l .held) _ (c .before .before .before .before .before .before .pre .small) (c .before .any-outside .ensures)) ∙ not-true (c .before .any-outside .result) (c .if1 .taken))
     in
-    subst (λ (now : Progress). Going (a .p) (byNode (a .parents .now)) now (l .held) (a .rest .now) (l .rest) (l .at) (l .slots))
-    (sym (rounds-stop (a .p) (a .parents .now) (a .table .now) (a .own .now) (a .m) (l .r) (a .hops) (a .held .now) (l .inv .0) home)) (l .inv .1)
+    subst (λ (now : Progress). Going (a .p) (goesIn (a .mode) (byNode (a .parents .now))) now (l .held) (a .rest .now) (l .rest) (l .at) (l .slots))
+    (sym (rounds-stop (a .mode) (a .p) (a .parents .now) (a .table .now) (a .own .now) (a .m) (l .r) (a .sendings) (a .held .now) (l .inv .0) home)) (l .inv .1)
 
 sub-round : tie.Need-sub-round Inv-loop μ-loop
 sub-round c =
@@ -77,7 +77,7 @@ round-requires c κs =
     let room : length (a .rest .now) - l .at ≡ length (take (length (l .rest) - l .at) (drop (l .at) (l .rest))) =
     ap (λ (n : ℕ). n - l .at) (sym (going-long (l .inv .1))) ∙ sym (length-drop (l .at) (l .rest)) ∙ ap length (sym (part-from (l .rest) (l .at)))
     in
-    subst (λ (r : ℕ). Ready (a .p) (byNode (a .parents .now)) (l .held) r) room (l .inv .1 .ready)
+    subst (λ (r : ℕ). Ready (a .p) (goesIn (a .mode) (byNode (a .parents .now))) (l .held) r) room (l .inv .1 .ready)
 
 -- what a round adds ends within the buffer, and a buffer's length is a number of the machine's
 round-adds : (c : tie.After-round Inv-loop μ-loop)
@@ -89,10 +89,10 @@ round-adds c =
     let a = start .args in
     let out = still-outside (a .p) (loop .loop .held) _ (start .pre .small) (c .before .before .before .before .any-outside .ensures) (c .before .before .before .if1 .left) in
     let next =
-    going-round (a .p) (a .parents .now) (a .table .now) (a .own .now) (a .m) (loop .loop .r) (a .held .now) _ _ _ _ _ (loop .loop .inv .1) out _ _ _ _
+    going-round (a .mode) (a .p) (a .parents .now) (a .table .now) (a .own .now) (a .m) (loop .loop .r) (a .held .now) _ _ _ _ _ (loop .loop .inv .1) out _ _ _ _
     (c .round .ensures)
     in
-    let most = start .good .1 .1 .1 .1 .1 .1 .1 .0 .0 in
+    let most = start .good .1 .1 .1 .1 .1 .1 .1 .1 .0 .0 in
     (omega (arith, next .within, most), omega (arith, next .within, next .fewer, most))
 
 add-at : tie.Need-add-at Inv-loop μ-loop
@@ -116,7 +116,7 @@ loop-again c =
     still-outside (a .p) (loop .loop .held) _ (loop .before .before .pre .small) (at .before .before .before .before .any-outside .ensures) (at .before .before .before .if1 .left)
     in (
       search needs,
-      going-round (a .p) (a .parents .now) (a .table .now) (a .own .now) (a .m) (loop .loop .r) (a .held .now) _ _ _ _ _ (loop .loop .inv .1) out _ _ _ _
+      going-round (a .mode) (a .p) (a .parents .now) (a .table .now) (a .own .now) (a .m) (loop .loop .r) (a .held .now) _ _ _ _ _ (loop .loop .inv .1) out _ _ _ _
           (at .round .ensures),
     )
 
@@ -127,9 +127,9 @@ returns-2 : tie.Need-returns-2 Inv-loop μ-loop
 returns-2 c =
     let a = c .before .before .before .args in
     let l = c .before .loop in
-    let all : l .r ≡ a .hops = omega (arith, l .inv .0) in
-    let way = wayBy (a .p) (a .parents .now) (a .table .now) (a .own .now) (a .m) in
-    subst (λ (n : ℕ). Going (a .p) (byNode (a .parents .now)) (rounds way n (from (a .held .now))) (l .held) (a .rest .now) (l .rest) (l .at) (l .slots))
+    let all : l .r ≡ a .sendings = omega (arith, l .inv .0) in
+    let way = wayBy (a .mode) (a .p) (a .parents .now) (a .table .now) (a .own .now) (a .m) in
+    subst (λ (n : ℕ). Going (a .p) (way .parent) (rounds way n (from (a .held .now))) (l .held) (a .rest .now) (l .rest) (l .at) (l .slots))
     all (l .inv .1)
 
 pub run-spec : {M : Type 1} → statement M

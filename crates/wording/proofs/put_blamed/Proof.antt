@@ -12,8 +12,8 @@ put-refusal-requires c κs = search needs
 put-named-senders-requires : tie.Need-put-named-senders-requires
 put-named-senders-requires c κs = search needs
 
-put-saying-requires : tie.Need-put-saying-requires
-put-saying-requires c κs = search needs
+put-saying-in-requires : tie.Need-put-saying-in-requires
+put-saying-in-requires c κs = search needs
 
 slice-aggregate-put-words : tie.Need-slice-aggregate-put-words
 slice-aggregate-put-words c = search needs
@@ -32,7 +32,7 @@ returns c =
     let senders = words .before .before .before .before in
     let refusal = senders .before .before .before .before in
     put-behind
-    (put-behind (refusal .put-refusal .ensures) (put-behind (senders .put-named-senders .ensures) (put-whole (words .put-saying .ensures))))
+    (put-behind (refusal .put-refusal .ensures) (put-behind (senders .put-named-senders .ensures) (put-whole (words .put-saying-in .ensures))))
     (put-whole (newline .put-words .ensures))
 
 pub put-blamed-spec : {M : Type 1} → statement M
@@ -41,7 +41,7 @@ put-blamed-spec =
     (tie.spec
     put-refusal-requires
     put-named-senders-requires
-    put-saying-requires
+    put-saying-in-requires
     slice-aggregate-put-words
     put-words-requires
     same-length

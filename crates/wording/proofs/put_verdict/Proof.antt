@@ -17,7 +17,8 @@ returns : tie.Need-returns
 returns c =
     let put = c .before .before in
     let failed = put .before .before .before in
-    put-same (sym (failed-line (failed .before .before .before .before .before .args .judgement) (failed .if1 .taken))) (put .put-blamed .ensures)
+    let a = failed .before .before .before .before .before .args in
+    put-same (sym (failed-line (a .mode) (a .judgement) (failed .if1 .taken))) (put .put-blamed .ensures)
 
 slice-aggregate-put-counted : tie.Need-slice-aggregate-put-counted
 slice-aggregate-put-counted c = search needs
@@ -40,7 +41,8 @@ returns-2 c =
     let end = c .before .before in
     let slots = end .before .before .before .before .before in
     let passed = slots .before .before .before in
-    put-same (sym (passed-line (passed .before .before .before .before .before .args .judgement) (passed .if1 .left)))
+    let a = passed .before .before .before .before .before .args in
+    put-same (sym (passed-line (a .mode) (a .judgement) (passed .if1 .left)))
     (put-behind (put-whole (slots .put-counted .ensures)) (put-whole (end .put-words .ensures)))
 
 pub put-verdict-spec : {M : Type 1} → statement M

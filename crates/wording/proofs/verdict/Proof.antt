@@ -15,13 +15,13 @@ array-share-prefix-line : tie.Need-array-share-prefix-line
 array-share-prefix-line c =
     let put = c .before in
     let a = put .before .before .before .args in
-    line-end (verdict-most (a .judgement)) (put .put-verdict .ensures)
+    line-end (verdict-most (a .mode) (a .judgement)) (put .put-verdict .ensures)
 
 slice-aggregate-put-words : tie.Need-slice-aggregate-put-words
 slice-aggregate-put-words c =
     let put = c .before .before in
     let a = put .before .before .before .args in
-    line-counts (verdict-most (a .judgement)) (put .put-verdict .ensures)
+    line-counts (verdict-most (a .mode) (a .judgement)) (put .put-verdict .ensures)
 
 put-words-requires : tie.Need-put-words-requires
 put-words-requires c κs = search needs
@@ -33,7 +33,7 @@ returns : tie.Need-returns
 returns c =
     let put = c .before .before .before .before .before .before in
     let a = put .before .before .before .args in
-    answered (verdict-most (a .judgement)) (put .put-verdict .ensures) (c .before .before .put-words .ensures)
+    answered (verdict-most (a .mode) (a .judgement)) (put .put-verdict .ensures) (c .before .before .put-words .ensures)
 
 pub verdict-spec : {M : Type 1} → statement M
 verdict-spec =

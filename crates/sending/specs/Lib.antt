@@ -1,0 +1,2 @@
+-- What the code here is measured by, besides the meaning of docs/RULES.md.
+pub mod First
