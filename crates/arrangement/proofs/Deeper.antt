@@ -13,10 +13,9 @@ use Rattle.meaning.specs.Yard.{isProbe, climb}
 use Rattle.meaning.specs.Sheet.{probeCount, parentOf, levelOf}
 use Rattle.meaning.specs.Answer.{isAccepted, sheetTest}
 use Rattle.laws.proofs.Turns.{sum-constant}
-use Rattle.laws.proofs.Walk.{not-both, more-or-same}
+use Rattle.laws.proofs.Walk.{not-both, probe-at, more-or-same}
 use Rattle.laws.proofs.Slots.{true-or-false}
 use Rattle.laws.proofs.Grounds.{level-up}
-use Rattle.limits.proofs.Sums.{probe-at}
 use Rattle.arrangement.proofs.Ranked.{count-least}
 
 module _ (s : List ℕ) (ok : isAccepted (sheetTest s) ≡ true) where

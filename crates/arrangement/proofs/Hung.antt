@@ -41,8 +41,8 @@ module _ (p : ℕ) (parent packets level : ℕ → ℕ) (hangs : Hangs p parent 
   abbrev w : List ℕ
   w = written p parent packets q pairs
 
-  probe-at : (k : ℕ) → k < p → isProbe p (k + 2) ≡ true
-  probe-at k h = probe-yes p (k + 2) (omega arith) (omega arith)
+  probe-of : (k : ℕ) → k < p → isProbe p (k + 2) ≡ true
+  probe-of k h = probe-yes p (k + 2) (omega arith) (omega arith)
 
   -- no probe is its own parent
   parent-other : (v : ℕ) → isProbe p v ≡ true → parent v ≡ v → ⊥
@@ -52,7 +52,7 @@ module _ (p : ℕ) (parent packets level : ℕ → ℕ) (hangs : Hangs p parent 
   record-passes : (k : ℕ) → k < p → probeTest (probeRecords w) p k ≡ accepted
   unfolding probeTest _then_
   record-passes k h =
-      let probe = probe-at k h in
+      let probe = probe-of k h in
       rw (
         written-first p parent packets q pairs k h,
         written-second p parent packets q pairs k h,
@@ -98,7 +98,7 @@ module _ (p : ℕ) (parent packets level : ℕ → ℕ) (hangs : Hangs p parent 
   -- "Numbers returned": 6 is not given
   walk-passes : (k : ℕ) → k < p → walkTest (parentOf w) p k ≡ accepted
   unfolding walkTest climbed
-  walk-passes k h = rw (probe-walks (k + 2) (probe-at k h) .0)
+  walk-passes k h = rw (probe-walks (k + 2) (probe-of k h) .0)
 
   pub hung-walks : inOrder p (walkTest (parentOf w) p) ≡ accepted
   hung-walks = all-accepted p (walkTest (parentOf w) p) walk-passes
@@ -111,7 +111,7 @@ module _ (p : ℕ) (parent packets level : ℕ → ℕ) (hangs : Hangs p parent 
   unfolding hops
   hung-hops =
       sum-same p (λ k. packetsOf w (k + 2) * levelOf w (k + 2)) (λ k. packets (k + 2) * level (k + 2))
-      (λ k h. ap₂ _*_ (probe-packets p parent packets q pairs (k + 2) (probe-at k h)) (hung-level (k + 2) (probe-at k h)))
+      (λ k h. ap₂ _*_ (probe-packets p parent packets q pairs (k + 2) (probe-of k h)) (hung-level (k + 2) (probe-of k h)))
 
   -- with pairs that pass, as many as the counts say
   pub hung-accepted : p ≤ 63 → q ≤ p * (p + 1) / 2 → length pairs ≡ 2 * q → inOrder q (pairTest pairs p) ≡ accepted → sheetTest w ≡ accepted

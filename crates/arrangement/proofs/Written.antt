@@ -13,7 +13,7 @@ use Rattle.meaning.specs.Yard.{isProbe}
 use Rattle.meaning.specs.Sheet.{firstOf, secondOf, probeCount, probeRecords, pairCountAt, pairCount, pairRecords, sheetLength, parentOf, packetsOf}
 use Rattle.meaning.specs.Plan.{twoBytes}
 use Rattle.meaning.specs.Answer.{accepted, _then_, countsTest}
-use Rattle.laws.proofs.Walk.{probe-least, probe-most}
+use Rattle.laws.proofs.Walk.{probe-at}
 use Rattle.laws.proofs.Accepted.{parent-of-probe, parent-outside, packets-of-probe, packets-outside}
 use Rattle.arrangement.specs.Arranged.{records}
 use Rattle.laws.proofs.InTurn.{two-length, two-first, two-second}
@@ -63,24 +63,17 @@ module _ (p : ℕ) (parent packets : ℕ → ℕ) (q : ℕ) (pairs : List ℕ) w
   pub written-second : (k : ℕ) → k < p → secondOf (probeRecords w) k ≡ packets (k + 2)
   written-second k h = in-records (2 * k + 1) (omega arith) ∙ two-second (λ j. parent (j + 2)) (λ j. packets (j + 2)) p k h
 
-  -- a probe, counted from 0
-  counted : (v : ℕ) → isProbe p v ≡ true → (v - 2 < p) × (v - 2 + 2 ≡ v)
-  counted v h =
-      let least = probe-least p v h in
-      let last = probe-most p v h in
-      (omega arith, omega arith)
-
   -- the parent and the packets of a probe; outside the yard both are 0
   pub written-parent : (v : ℕ) → parentOf w v ≡ cond (isProbe p v) (parent v) 0
   written-parent v =
       chosen (isProbe p v) (parentOf w v) (parent v) 0
-      (λ h. parent-of-probe w v h ∙ written-first (v - 2) (counted v h .0) ∙ ap parent (counted v h .1))
+      (λ h. let at = probe-at p v h in parent-of-probe w v h ∙ written-first (v - 2) (at .0) ∙ ap parent (at .1))
       (parent-outside w v)
 
   pub written-packets : (v : ℕ) → packetsOf w v ≡ cond (isProbe p v) (packets v) 0
   written-packets v =
       chosen (isProbe p v) (packetsOf w v) (packets v) 0
-      (λ h. packets-of-probe w v h ∙ written-second (v - 2) (counted v h .0) ∙ ap packets (counted v h .1))
+      (λ h. let at = probe-at p v h in packets-of-probe w v h ∙ written-second (v - 2) (at .0) ∙ ap packets (at .1))
       (packets-outside w v)
 
   -- so of a probe they are those that were written

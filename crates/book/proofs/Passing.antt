@@ -17,9 +17,9 @@ use Rattle.meaning.specs.Answer.{isAccepted, sheetTest}
 use Rattle.meaning.specs.Book.{someSender, slotsWhere}
 use Rattle.meaning.specs.Legal.{Legal, RunsIn, Runs}
 use Rattle.laws.proofs.Turns.{some-where, some-found, none-some}
-use Rattle.laws.proofs.Walk.{not-both, probe-yes, probe-most}
+use Rattle.laws.proofs.Walk.{not-both, probe-yes, probe-most, probe-at}
 use Rattle.laws.proofs.Slots.{true-or-false}
-use Rattle.limits.proofs.Sums.{forEach-counts, probe-at}
+use Rattle.limits.proofs.Sums.{forEach-counts}
 use Rattle.limits.proofs.Exclusive.{Exclusive}
 use Rattle.limits.proofs.Fewest.{children-exclusive}
 use Rattle.limits.proofs.BookLength.{alone-exclusive}

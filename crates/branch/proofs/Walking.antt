@@ -57,7 +57,8 @@ module _ (parent : ℕ → ℕ) (top : ℕ) where
         → lagOn parent packets top left lag v ≡ whole → lagOn parent packets top (left - 1) next u ≡ whole
     lag-next left lag v u taken next whole h ne at t n e =
         let more : suc (left - 1) ≡ left = omega arith in
-        ap₂ (lagOn parent packets top (left - 1)) (n ∙ ap (λ (x : ℕ). lag + 1 - x) (t ∙ ap packets at)) at ∙ sym (lag-on parent packets top (left - 1) lag v ne) ∙ ap (λ (n : ℕ). lagOn parent packets top n lag v) more ∙ e
+        ap₂ (lagOn parent packets top (left - 1)) (n ∙ ap (λ (x : ℕ). lag + 1 - x) (t ∙ ap packets at)) at
+        ∙ sym (lag-on parent packets top (left - 1) lag v ne) ∙ ap (λ (n : ℕ). lagOn parent packets top n lag v) more ∙ e
 
 -- the most so far and one more
 pub most-next : (i : ℕ) (f : ℕ → ℕ) (a b c : ℕ) → a ≡ most i f → b ≡ f i → c ≡ max a b → c ≡ most (i + 1) f

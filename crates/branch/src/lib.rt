@@ -106,7 +106,8 @@ fn lag_on(parents: &[u8; 65], packets: &[u8; 65], top: Probe, hops: u8, v: Probe
 
 // The lag that v brings to the branch of top.
 fn lag_brought(parents: &[u8; 65], packets: &[u8; 65], top: Probe, hops: u8, v: Probe) -> u8
-    ensures { λ r. ⌜ r ≡ cond (reaches (byNode (now (parents .entry))) (top .0) hops (v .0)) (lagOn (byNode (now (parents .entry))) (byNode (now (packets .entry))) (top .0) hops 0 (v .0)) 0 ⌝ }
+    ensures { λ r. ⌜ r ≡ cond (reaches (byNode (now (parents .entry))) (top .0) hops (v .0))
+        (lagOn (byNode (now (parents .entry))) (byNode (now (packets .entry))) (top .0) hops 0 (v .0)) 0 ⌝ }
 {
     if comes_to(parents, top, hops, v) {
         return lag_on(parents, packets, top, hops, v);

@@ -10,7 +10,7 @@ use Rattle.meaning.specs.Yard.{isProbe}
 use Rattle.meaning.specs.Conflict.{entry}
 use Rattle.meaning.specs.Rounds.{holds, joined, ownersByProbe, ownersByLevel}
 use Rattle.laws.proofs.Turns.{some-found, some-none, none-some, some-where, getD-tab}
-use Rattle.laws.proofs.Walk.{probe-yes, probe-least, probe-most}
+use Rattle.laws.proofs.Walk.{probe-yes, probe-at}
 use Rattle.laws.proofs.Slots.{and-left, only-joined, never}
 use Rattle.laws.proofs.Joining.{nobody-chosen}
 use Rattle.chosen.specs.Kept.{flag, blockedBy, Joining, nobody, ownersBy, Chosen}
@@ -45,10 +45,8 @@ module _ (p : ℕ) (relation : ℕ → ℕ → Bool) (may : ℕ → Bool) where
       go true e =
           let found = some-where places (flag taken) e in
           let v = found .0 in
-          let probe = probes-only v (found .2) in
-          let again : v - 2 + 2 ≡ v = omega (arith, probe-least p v probe) in
-          sym (some-found p (λ k. flag taken (k + 2)) (v - 2) (omega (arith, probe-least p v probe, probe-most p v probe))
-          (ap (flag taken) again ∙ found .2))
+          let at = probe-at p v (probes-only v (found .2)) in
+          sym (some-found p (λ k. flag taken (k + 2)) (v - 2) (at .0) (ap (flag taken) (at .1) ∙ found .2))
 
 module _ (p : ℕ) (small : p ≤ 63) (table : List (List Bool)) (own : List ℕ) (s : ℕ) (held : List ℕ) (mine : List Bool)
     (flags : mine ≡ ownersByProbe (byNode own) s (holds held)) where

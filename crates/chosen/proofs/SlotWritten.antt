@@ -8,7 +8,7 @@ use native.Mathlib.Omega.{arith}
 use lib.Dec.{ltb}
 use lib.ListN.{length, take, drop, length-take}
 use lib.Seq.{take-at}
-use Rattle.meaning.specs.Words.{places, someProbe, byNode}
+use Rattle.meaning.specs.Words.{places, byNode}
 use Rattle.meaning.specs.Plan.{front, slotBytes}
 use Rattle.meaning.specs.Conflict.{entry}
 use Rattle.meaning.specs.Rounds.{holds, joined, slotOf, turnOf}
@@ -53,8 +53,8 @@ module _ (p : ℕ) {few : ℕ} (is : few ≡ atMost63 p) {table : List (List Boo
 
   module _ (e : any ≡ true) where
     -- what the writer asks for
-    pub may-write : (length chosen ≡ places) × (blocked ≡ blockedBy (entry table) chosen)
-    may-write = (ap length (choice .chose e) ∙ owners-long few (entry table) (byNode own) s (holds held), choice .knows e)
+    pub may-write : {room : ℕ} → 64 ≤ room → (few ≤ 63) × ((length chosen ≡ places) × ((blocked ≡ blockedBy (entry table) chosen) × (64 ≤ room)))
+    may-write h = (omega (arith, is), (ap length (choice .chose e) ∙ owners-long few (entry table) (byNode own) s (holds held), (choice .knows e, h)))
 
     -- those that send
     abbrev all : List ℕ
@@ -76,42 +76,20 @@ module _ (p : ℕ) {few : ℕ} (is : few ≡ atMost63 p) {table : List (List Boo
         in
         (w .counted ∙ add-one (length all) ∙ ap length (sym fits), w .wrote ∙ ap (front rest) (sym fits))
 
-module _ (p : ℕ) (table : List (List Bool)) (own : List ℕ) (s : ℕ) (held : List ℕ) where
-  abbrev its : List ℕ
-  its = slotBytes (turnBy (atMost63 p) table own s held)
+    -- into another list first, where any slot fits, and from there as a whole
+    module _ (d short : List ℕ) (bytes : ℕ) (room : 64 ≤ length d) (w : Written all d short bytes) where
+      pub short-ends : bytes ≤ length short
+      short-ends =
+          omega (arith, few-senders, w .counted, ap length (w .wrote) ∙ length-front d (length all ∷ all) (omega (arith, few-senders)))
 
-  -- any slot is short
-  slot-short : length its ≤ 64
-  unfolding turnSlots turnOf slotOf slotBytes
-  slot-short =
-      let few = atMost63 p in
-      let owners = ownersBy few table own s held in
-      go (someProbe few (flag owners)) (sendersBy few table held owners)
-      (omega (arith, probes-few (flag (joined few (entry table) (holds held) owners)) few))
-    where
-      go : (b : Bool) (all : List ℕ) → length all ≤ 63 → length (slotBytes (cond b (all ∷ []) [])) ≤ 64
-      go true all h = omega (arith, ap length (one-bytes all))
-      go false all h = omega arith
+      pub short-many : bytes ≡ length (take bytes short)
+      short-many = sym (length-take bytes short ∙ (omega (arith, short-ends)))
 
-  -- a slot written elsewhere first, and then from there
-  module _ (d short : List ℕ) (bytes : ℕ) (room : 64 ≤ length d) (w : Wrote (turnBy (atMost63 p) table own s held) d short bytes) where
-    fits : whole d its ≡ its
-    fits = whole-fits d its (omega (arith, slot-short))
-
-    so-many : bytes ≡ length its
-    so-many = w .0 ∙ ap length fits
-
-    in-front : short ≡ front d its
-    in-front = w .1 ∙ ap (front d) fits
-
-    pub short-ends : bytes ≤ length short
-    short-ends = omega (arith, so-many, slot-short, ap length in-front ∙ length-front d its (omega (arith, slot-short)))
-
-    pub short-many : bytes ≡ length (take bytes short)
-    short-many = sym (length-take bytes short ∙ (omega (arith, short-ends)))
-
-    pub short-written : (rest rest′ : List ℕ) (n : ℕ) → n ≡ length (whole rest (take bytes short)) → rest′ ≡ front rest (whole rest (take bytes short))
-        → Wrote (turnBy (atMost63 p) table own s held) rest rest′ n
-    short-written rest rest′ n counted wrote =
-        let lent : take bytes short ≡ its = ap (take bytes) in-front ∙ take-at its (drop (length its) d) bytes (sym so-many) in
-        (counted ∙ ap (λ (l : List ℕ). length (whole rest l)) lent, wrote ∙ ap (λ (l : List ℕ). front rest (whole rest l)) lent)
+      pub short-written : (rest rest′ : List ℕ) (n : ℕ) → n ≡ length (whole rest (take bytes short)) → rest′ ≡ front rest (whole rest (take bytes short))
+          → Wrote turn rest rest′ n
+      short-written rest rest′ n counted wrote =
+          let lent : take bytes short ≡ slotBytes turn =
+          ap (take bytes) (w .wrote) ∙ take-at (length all ∷ all) (drop (length (length all ∷ all)) d) bytes (sym (w .counted ∙ add-one (length all)))
+          ∙ sym its-bytes
+          in
+          (counted ∙ ap (λ (l : List ℕ). length (whole rest l)) lent, wrote ∙ ap (λ (l : List ℕ). front rest (whole rest l)) lent)

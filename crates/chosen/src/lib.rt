@@ -1,4 +1,4 @@
-// Who sends in the slot of a colour, and the slot in bytes.
+// Who sends in the slot of a colour, and the slot in bytes. `held` is what each node may send: the packets it holds, or 1 where its merged reading is ready.
 ghost use mathlib.Core.Path.{_≡_};
 ghost use mathlib.Core.Bool.{not, _||_, _&&_};
 ghost use Prim.Native.Nat.{_≤_, _<_};
@@ -25,7 +25,7 @@ fn block(row: &[bool; 65], blocked: &mut [bool; 65])
     }
 }
 
-// Who owns the slot of colour s, by node: has the colour and holds a packet. All places and no branch: a compiler does many at once.
+// Who owns the slot of colour s, by node: has the colour and may send. All places and no branch: a compiler does many at once.
 fn owning(own: &[u8; 65], s: Colour, held: &[u16; 65]) -> [bool; 65]
     ensures { λ r. ⌜ r ≡ ownersByProbe (byNode (now (own .entry))) (s .0) (holds (now (held .entry))) ⌝ }
 {
@@ -120,7 +120,7 @@ fn choose(
     any_of(chosen)
 }
 
-// Who is to send if its turn comes now, by node: an owner, or one that holds a packet and conflicts with no owner.
+// Who is to send if its turn comes now, by node: an owner, or one that may and conflicts with no owner.
 fn free_to_send(held: &[u16; 65], owners: &[bool; 65], blocked: &[bool; 65]) -> [bool; 65]
     ensures { λ r. ⌜ r ≡ tab places (λ v. flag (now (owners .entry)) v || holds (now (held .entry)) v && not (flag (now (blocked .entry)) v)) ⌝ }
 {
@@ -209,29 +209,6 @@ fn put_whole(rest: &mut [u8], bytes: &[u8]) -> usize
     i
 }
 
-// The turn of colour s where any slot fits into the rest: writes it at its start; says how many bytes it took, 0 where nobody sends.
-fn write_with_room(
-    rest: &mut [u8],
-    p: u8,
-    table: &[[bool; 65]; 65],
-    own: &[u8; 65],
-    s: Colour,
-    held: &[u16; 65],
-) -> usize
-    requires { ⌜ 64 ≤ length (now rest) ⌝ }
-    ensures answer { λ r. ⌜ r ≡ turnLength (now (rest .entry)) (turnBy (atMost63 p) (now (table .entry)) (now (own .entry)) (s .0) (now (held .entry))) ⌝ }
-    ensures rest { λ _. ⌜ now (rest .exit)
-        ≡ turnIn (now (rest .entry)) (turnBy (atMost63 p) (now (table .entry)) (now (own .entry)) (s .0) (now (held .entry))) ⌝ }
-{
-    let few = laws::at_most_63(p);
-    let mut chosen = [false; 65];
-    let mut blocked = [false; 65];
-    if !choose(few, table, own, s, held, &mut chosen, &mut blocked) {
-        return 0;
-    }
-    write_senders(rest, few, table, held, &chosen, &blocked)
-}
-
 // Writes the slot of colour s at the start of the rest; says how many bytes it took, 0 and nothing written where nobody sends or it does not fit.
 pub fn write_slot(
     rest: &mut [u8],
@@ -245,11 +222,17 @@ pub fn write_slot(
     ensures rest { λ _. ⌜ now (rest .exit)
         ≡ turnIn (now (rest .entry)) (turnBy (atMost63 p) (now (table .entry)) (now (own .entry)) (s .0) (now (held .entry))) ⌝ }
 {
+    let few = laws::at_most_63(p);
+    let mut chosen = [false; 65];
+    let mut blocked = [false; 65];
+    if !choose(few, table, own, s, held, &mut chosen, &mut blocked) {
+        return 0;
+    }
     // Any slot fits into 64 bytes: only near a buffer's end it is written elsewhere first.
     if rest.len() < 64 {
         let mut slot = [0u8; 64];
-        let bytes = write_with_room(&mut slot, p, table, own, s, held);
+        let bytes = write_senders(&mut slot, few, table, held, &chosen, &blocked);
         return put_whole(rest, &slot[..bytes]);
     }
-    write_with_room(rest, p, table, own, s, held)
+    write_senders(rest, few, table, held, &chosen, &blocked)
 }

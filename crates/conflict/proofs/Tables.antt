@@ -118,7 +118,8 @@ marked-table n f a b = go (ltb a n) refl (ltb b places) refl
         ∙ set-tab n (λ x. tab places (f x)) a (tab places (λ y. cond (eqb b y) true (f a y)))
         ∙ tab-same n (λ x. cond (eqb a x) (tab places (λ y. cond (eqb b y) true (f a y))) (tab places (f x))) (λ x. tab places (g x)) (λ x hx. row x (eqb a x) refl)
     go true ha false hb =
-        rows-same n f g (λ x hx y hy. sym (ap (λ (s : Bool). f x y || (eqb a x && s)) (apart places b y hb hy) ∙ ap (λ (s : Bool). f x y || s) (and-false (eqb a x)) ∙ or-false (f x y)))
+        rows-same n f g (λ x hx y hy. sym (ap (λ (s : Bool). f x y || (eqb a x && s)) (apart places b y hb hy)
+        ∙ ap (λ (s : Bool). f x y || s) (and-false (eqb a x)) ∙ or-false (f x y)))
     go false ha t hb =
         rows-same n f g (λ x hx y hy. sym (ap (λ (s : Bool). f x y || (s && eqb b y)) (apart n a x ha hx) ∙ or-false (f x y)))
 
@@ -218,7 +219,8 @@ levels-marked : (level : ℕ → ℕ) (row : ℕ → Bool) (a : ℕ) (f : ℕ �
     → levelsMarked p level row a (tableOf f) ≡ tableOf (withLevels f a (λ d. some p (λ k. eqb (level (k + 2)) d && row (k + 2))))
 unfolding levelsMarked forEach some
 levels-marked level row a f zero =
-    table-same f _ (λ c hc d hd. sym (ap (λ (z : Bool). f c d || (not (eqb c d) && z)) (and-false (eqb a c)) ∙ ap (λ (z : Bool). f c d || z) (and-false (not (eqb c d))) ∙ or-false (f c d)))
+    table-same f _ (λ c hc d hd. sym (ap (λ (z : Bool). f c d || (not (eqb c d) && z)) (and-false (eqb a c))
+    ∙ ap (λ (z : Bool). f c d || z) (and-false (not (eqb c d))) ∙ or-false (f c d)))
 levels-marked level row a f (suc k) =
     ap (λ (t : List (List Bool)). cond (row (k + 2) && not (eqb a (level (k + 2)))) (marked places t a (level (k + 2))) t) (levels-marked level row a f k)
     ∙ level-marked f (λ d. some k (λ k. eqb (level (k + 2)) d && row (k + 2))) a (level (k + 2)) (row (k + 2))

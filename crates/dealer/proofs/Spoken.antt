@@ -7,14 +7,12 @@ use native.Mathlib.Omega.{arith}
 use borrow.Author.Tests.{eq-eqb, ne-eqb, lt-ltb, le-ltb}
 use lib.Dec.{eqb, ltb}
 use lib.ListN.{length}
-use Rattle.meaning.specs.declared.Outcome.{Outcome}
 use Rattle.meaning.specs.declared.Told.{Told}
 use Rattle.meaning.specs.declared.MergedTold.{MergedTold}
 use Rattle.meaning.specs.Lister.{text, decimal}
-use Rattle.wording.specs.Worded.{refusedLine}
-use Rattle.wording.proofs.AnswersLong.{Within, counted, both, numbered, digits-long}
+use Rattle.lines.proofs.PartsLong.{Within, counted, both, numbered, digits-long}
 use Rattle.dealer.specs.SlotLength.{down, up, secondsOf}
-use Rattle.dealer.specs.Sentences.{minutes, timed, atLeast, leastSaid, mergedSaid, oursSaid, mostSaid, nobodySaid, sentences, mergedSentences, orRefused, spreadText}
+use Rattle.dealer.specs.Sentences.{minutes, timed, atLeast, leastSaid, mergedSaid, oursSaid, mostSaid, nobodySaid, sentences, mergedSentences, spreadText}
 
 -- a slot's length is known, or not
 module _ (slots ms rounding : ℕ) where
@@ -35,14 +33,6 @@ module _ (least ours times : ℕ) where
   pub none-shorter : ours ≤ least → text " Nobody's plan is shorter.\n" ≡ nobodySaid least ours times
   unfolding nobodySaid
   none-shorter least-slots = rw (le-ltb least ours least-slots)
-
--- a sheet is answered, or refused
-module _ (outcome : Outcome) (answer : List ℕ) where
-  pub sheet-answered : outcome .number ≡ 0 → answer ≡ orRefused outcome answer
-  sheet-answered e = rw (eq-eqb (outcome .number) 0 e)
-
-  pub sheet-refused : (outcome .number ≡ 0 → ⊥) → refusedLine outcome ≡ orRefused outcome answer
-  sheet-refused ne = rw (ne-eqb (outcome .number) 0 ne)
 
 -- how long each part can be
 time-long : (slots ms rounding : ℕ) → Within (timed slots ms rounding) 20
@@ -93,13 +83,14 @@ nobody-long least ours times = go (ltb least ours)
     go false = counted refl
 
 pub sentences-most : (told : Told) (ms : ℕ) → length (sentences told ms) ≤ 256
+unfolding sentences
 sentences-most told ms =
     let slots = both (both (least-long (told .least) ms) (ours-long (told .ours) ms)) (most-long (told .most) ms) in
     let all = both slots (nobody-long (told .least) (told .ours) (told .times)) in
     omega (arith, all .short)
 
 pub merged-most : (told : MergedTold) (ms : ℕ) → length (mergedSentences told ms) ≤ 256
-unfolding text
+unfolding text mergedSentences
 merged-most told ms =
     let slots = both (both (merged-long (told .least) ms) (ours-long (told .ours) ms)) (most-long (told .most) ms) in
     let all = both slots (counted {bytes = text "\n"} {most = 1} refl) in

@@ -43,7 +43,7 @@ unfoldable pub nobodySaid : (least ours times : ℕ) → Bytes
 nobodySaid least ours times =
     cond (ltb least ours) (text " Nobody's plan can be less than 1/" ++ decimal 5 times ++ text " of ours.\n") (text " Nobody's plan is shorter.\n")
 
-abbrev pub sentences : Told → (ms : ℕ) → Bytes
+unfoldable pub sentences : Told → (ms : ℕ) → Bytes
 sentences told ms = leastSaid (told .least) ms ++ oursSaid (told .ours) ms ++ mostSaid (told .most) ms ++ nobodySaid (told .least) (told .ours) (told .times)
 
 -- sentences, or the line of a refusal
@@ -54,7 +54,7 @@ unfoldable pub askedText : Told → (ms : ℕ) → Bytes
 askedText told ms = orRefused (told .outcome) (sentences told ms)
 
 -- "Merged readings", on the telephone: three sentences
-abbrev pub mergedSentences : MergedTold → (ms : ℕ) → Bytes
+unfoldable pub mergedSentences : MergedTold → (ms : ℕ) → Bytes
 mergedSentences told ms = mergedSaid (told .least) ms ++ oursSaid (told .ours) ms ++ mostSaid (told .most) ms ++ text "\n"
 
 unfoldable pub mergedText : MergedTold → (ms : ℕ) → Bytes

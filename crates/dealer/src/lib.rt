@@ -3,10 +3,12 @@ ghost use mathlib.Core.Path.{_≡_};
 ghost use Prim.Native.Nat.{_≤_, min};
 ghost use lib.ListN.{length, take};
 ghost use Rattle.lines.specs.Line.{lineLength, lineIn};
-ghost use Rattle.wording.specs.Fits.{Fits};
+ghost use Rattle.lines.specs.Fits.{Fits};
 ghost use Rattle.dealer.specs.SlotLength.{longestSlot, millisecondsSaid, secondsOf};
-ghost use Rattle.dealer.specs.Sentences.{timed, atLeast, oursSaid, mostSaid, nobodySaid, sentences, askedText, mergedSentences, mergedText, spreadText};
+ghost use Rattle.dealer.specs.Sentences.{timed, atLeast, oursSaid, mostSaid, nobodySaid, sentences, mergedSentences};
+ghost use Rattle.dealer.specs.Sentences.{orRefused, askedText, mergedText, spreadText};
 use meaning::MergedTold;
+use meaning::Outcome;
 use meaning::Told;
 
 // A slot is at most a minute long, in milliseconds.
@@ -105,21 +107,6 @@ fn put_sentences(told: Told, ms: u16, out: &mut [u8], at: usize) -> usize
     put_nobody(told.least, told.ours, told.times, out, d)
 }
 
-// What is said of a sheet, at the start of a lent buffer, in minutes too where ms is not 0; says how many bytes it has, 0 and nothing written where they do not fit.
-pub fn asked(out: &mut [u8], told: Told, ms: u16) -> usize
-    ensures part { λ r. ⌜ (r ≤ length (now (out .exit))) × (r ≡ length (take r (now (out .exit)))) ⌝ }
-    ensures answer { λ r. ⌜ r ≡ lineLength (now (out .entry)) (askedText told ms) ⌝ }
-    ensures buffer { λ _. ⌜ now (out .exit) ≡ lineIn (now (out .entry)) (askedText told ms) ⌝ }
-{
-    let outcome = told.outcome;
-    if outcome.number != 0 {
-        return wording::refused(out, outcome);
-    }
-    let mut line = [0u8; wording::ANY_ANSWER];
-    let n = put_sentences(told, ms, &mut line, 0);
-    lines::put_words(&line[..n], out, 0)
-}
-
 // Puts the three sentences about merged readings at a place; says where they end.
 fn put_merged(told: MergedTold, ms: u16, out: &mut [u8], at: usize) -> usize
     ensures { λ r. ⌜ Fits (now (out .entry)) at (mergedSentences told ms) (now (out .exit)) r ⌝ }
@@ -130,19 +117,38 @@ fn put_merged(told: MergedTold, ms: u16, out: &mut [u8], at: usize) -> usize
     lines::put_words(b"\n", out, third)
 }
 
+// Sentences, or the line of the refusal, at the start of a lent buffer; says how many bytes they have, 0 and nothing written where they do not fit.
+fn or_refused(out: &mut [u8], outcome: Outcome, sentences: &[u8]) -> usize
+    ensures part { λ r. ⌜ (r ≤ length (now (out .exit))) × (r ≡ length (take r (now (out .exit)))) ⌝ }
+    ensures answer { λ r. ⌜ r ≡ lineLength (now (out .entry)) (orRefused outcome (now (sentences .entry))) ⌝ }
+    ensures buffer { λ _. ⌜ now (out .exit) ≡ lineIn (now (out .entry)) (orRefused outcome (now (sentences .entry))) ⌝ }
+{
+    if outcome.number != 0 {
+        return wording::refused(out, outcome);
+    }
+    lines::put_words(sentences, out, 0)
+}
+
+// What is said of a sheet, at the start of a lent buffer, in minutes too where ms is not 0; says how many bytes it has, 0 and nothing written where they do not fit.
+pub fn asked(out: &mut [u8], told: Told, ms: u16) -> usize
+    ensures part { λ r. ⌜ (r ≤ length (now (out .exit))) × (r ≡ length (take r (now (out .exit)))) ⌝ }
+    ensures answer { λ r. ⌜ r ≡ lineLength (now (out .entry)) (askedText told ms) ⌝ }
+    ensures buffer { λ _. ⌜ now (out .exit) ≡ lineIn (now (out .entry)) (askedText told ms) ⌝ }
+{
+    let mut line = [0u8; wording::ANY_ANSWER];
+    let n = put_sentences(told, ms, &mut line, 0);
+    or_refused(out, told.outcome, &line[..n])
+}
+
 // The same of a sheet's merged readings.
 pub fn merged_asked(out: &mut [u8], told: MergedTold, ms: u16) -> usize
     ensures part { λ r. ⌜ (r ≤ length (now (out .exit))) × (r ≡ length (take r (now (out .exit)))) ⌝ }
     ensures answer { λ r. ⌜ r ≡ lineLength (now (out .entry)) (mergedText told ms) ⌝ }
     ensures buffer { λ _. ⌜ now (out .exit) ≡ lineIn (now (out .entry)) (mergedText told ms) ⌝ }
 {
-    let outcome = told.outcome;
-    if outcome.number != 0 {
-        return wording::refused(out, outcome);
-    }
     let mut line = [0u8; wording::ANY_ANSWER];
     let n = put_merged(told, ms, &mut line, 0);
-    lines::put_words(&line[..n], out, 0)
+    or_refused(out, told.outcome, &line[..n])
 }
 
 // Puts what is said of the other arrangements at a place; says where it ends.

@@ -10,7 +10,7 @@ use lib.Dec.{ltb, leb}
 use lib.ListN.{length, getD, length-append}
 use Rattle.meaning.specs.Words.{places, sum}
 use Rattle.meaning.specs.Sheet.{probeCount, pairCount, pairRecords, parentOf, interfere}
-use Rattle.meaning.specs.Conflict.{entry, conflict, conflictTable}
+use Rattle.meaning.specs.Conflict.{entry, conflictTable}
 use Rattle.meaning.specs.Answer.{isAccepted, sheetTest}
 use Rattle.meaning.specs.Lister.{text, decimal, said}
 use Rattle.laws.proofs.Turns.{sum-least, sum-constant}

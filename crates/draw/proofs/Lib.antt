@@ -1,4 +1,3 @@
 -- Laws that belong to no one function.
-pub mod TextsPut
 pub mod GraphLong
 pub mod Made

@@ -17,9 +17,9 @@ use Rattle.sheet.specs.declared.Tree.{Tree}
 use Rattle.sheet.specs.Tree.{treeOf}
 use Rattle.sheet.proofs.Standing.{standing, outcome-read, conflicts-read}
 use Rattle.lines.specs.Line.{fitting, Put}
-use Rattle.wording.specs.Fits.{Fits}
-use Rattle.wording.proofs.Fitting.{put-same}
-use Rattle.wording.proofs.Wordings.{line-end, line-counts, line-ends, answered}
+use Rattle.lines.specs.Fits.{Fits}
+use Rattle.lines.proofs.Fitting.{put-same}
+use Rattle.lines.proofs.OwnLine.{line-end, line-counts, line-ends, answered}
 use Rattle.graph.specs.declared.Drawn.{Drawn}
 use Rattle.graph.specs.Table.{Table}
 use Rattle.graph.specs.Drawing.{tableText, graphText, GraphMade, graphMade}

@@ -6,7 +6,7 @@ ghost use Prim.Native.Nat.{_-_, _≤_, _<_};
 ghost use lib.ListN.{length};
 ghost use Rattle.meaning.specs.Words.{places};
 ghost use Rattle.meaning.specs.Plan.{front};
-ghost use Rattle.wording.specs.Fits.{Fits};
+ghost use Rattle.lines.specs.Fits.{Fits};
 ghost use Rattle.graph.specs.Drawing.{texts, problemLine, edgeLine, rowText, tableText, graphMade};
 use graph::Drawn;
 use meaning::Outcome;

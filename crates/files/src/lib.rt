@@ -1,4 +1,5 @@
-// Files by the program's arguments: a sheet, a plan or a text that is read, and a plan, a book, a text or a sheet that is written whole or not at all; what is said about them, and the exit status.
+// Files by the program's arguments: a sheet, a plan or a text that is read, and a plan, a book, a text or a sheet that is written whole or not at all;
+// what is said about them, and the exit status.
 ghost use mathlib.Core.Path.{_≡_};
 ghost use Prim.Native.Nat.{min};
 ghost use lib.ListN.{length, replicate};

@@ -1,4 +1,5 @@
-// The library for gateways: telephone, arrangements, planners, judge, chooser, merged readings, wake books, lister and graphs over pointers and lengths, as include/yard.h declares them.
+// The library for gateways: telephone, arrangements, planners, judge, chooser, merged readings, wake books, lister and graphs over pointers and lengths,
+// as include/yard.h declares them.
 ghost use mathlib.Core.Path.{_≡_};
 ghost use mathlib.Core.Bool.{false, cond};
 ghost use Prim.Native.Nat.{_+_, _^_, _<_};

@@ -3,7 +3,7 @@ use mathlib.Core.Bool.{Bool, true, false, _&&_}
 use mathlib.Core.List.{List, [], _∷_, _++_}
 use Prim.Native.Nat.{ℕ, suc}
 use Prim.Native.String.{String}
-use lib.Dec.{T, eqb}
+use lib.Dec.{T}
 use lib.ListN.{replicate}
 use Rattle.meaning.specs.Words.{Bytes, forEach, some, sum, tab}
 use Rattle.meaning.specs.Plan.{front}
@@ -15,11 +15,10 @@ use Rattle.meaning.specs.Lister.{text, decimal}
 use Rattle.conflict.specs.Marks.{marked}
 use Rattle.digits.specs.Digits.{othersStand, digitsSay, numberSaid}
 use Rattle.graph.specs.declared.Graph.{Graph}
-use Rattle.graph.specs.declared.Drawn.{Drawn}
 use Rattle.graph.specs.Part.{marks, part}
 use Rattle.graph.specs.Lines.{same, isNumber, isProblem, isEdge, lineOf}
 use Rattle.graph.specs.Table.{Table, noEdges, withEdge, edgesOf, edges}
-use Rattle.graph.specs.Reading.{unread, mayStand, isAstray, lineTest, taken, faulty, tableAfter, lineRead, linesRead, lastRead, endTest, GraphRead, ended, graphRead}
+use Rattle.graph.specs.Reading.{unread, mayStand, isAstray, lineTest, taken, faulty, tableAfter, lineRead, linesRead, lastRead, endTest, ended, graphRead}
 use Rattle.graph.specs.Drawing.{texts, problemLine, edgeLine, rowText, tableText, GraphMade, graphMade}
 
 -- what a row says. `read` gives a text, then number, place and vertices, and for each node from 0 on the nodes that it is joined to. `drawn` gives a

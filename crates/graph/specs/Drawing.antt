@@ -4,7 +4,6 @@ use mathlib.Core.List.{[], _++_}
 use Prim.Native.Nat.{ℕ, zero, suc, _-_}
 use lib.Dec.{ltb}
 use lib.ListN.{length}
-use Rattle.meaning.specs.declared.Outcome.{Outcome}
 use Rattle.meaning.specs.Words.{Bytes, places}
 use Rattle.meaning.specs.Sheet.{probeCount}
 use Rattle.meaning.specs.Conflict.{entry, conflictTable}

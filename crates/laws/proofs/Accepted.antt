@@ -15,7 +15,7 @@ use Rattle.meaning.specs.Yard.{isProbe, reaches, climbed}
 use Rattle.meaning.specs.Sheet.{firstOf, secondOf, probeCount, probeRecords, pairCount, parentOf, packetsOf}
 use Rattle.meaning.specs.Answer.{accepted, isAccepted, given, _then_, inOrder, probeTest, walkTest, countsTest, sheetTest}
 use Rattle.laws.proofs.Turns.{below-or-last, forEach-one, forEach-stays}
-use Rattle.laws.proofs.Walk.{not-both, probe-least, probe-most}
+use Rattle.laws.proofs.Walk.{not-both, probe-at}
 
 -- the first test gives a number: the second is not tried
 pub then-stays : (a b : Outcome) → isAccepted a ≡ false → (a then b) ≡ a
@@ -144,12 +144,9 @@ accepted-probe : (s : List ℕ) → isAccepted (inOrder (probeCount s) (probeTes
     → isAccepted (inOrder (probeCount s) (walkTest (parentOf s) (probeCount s))) ≡ true
     → (v : ℕ) → isProbe (probeCount s) v ≡ true → AcceptedProbe s v
 accepted-probe s records walks v h =
-    let least = probe-least (probeCount s) v h in
-    let last = probe-most (probeCount s) v h in
+    let at = probe-at (probeCount s) v h in
     let k : ℕ = v - 2 in
-    let within : k < probeCount s = omega arith in
-    let its : k + 2 ≡ v = omega arith in
-    let passed = passed-record (probeRecords s) (probeCount s) k (inOrder-accepted _ _ records k within) in
+    let passed = passed-record (probeRecords s) (probeCount s) k (inOrder-accepted _ _ records k (at .0)) in
     let parent = parent-of-probe s v h in
     let packets = packets-of-probe s v h in
     record {
@@ -158,8 +155,8 @@ accepted-probe s records walks v h =
       parent-other = λ same. passed .parent-other (omega (arith, parent, same));
       packets-most = omega (arith, packets, passed .packets-most);
       arrives =
-          subst (λ (u : ℕ). reaches (parentOf s) 1 (probeCount s) u ≡ true) its
-          (walk-arrives (parentOf s) (probeCount s) k (inOrder-accepted _ _ walks k within));
+          subst (λ (u : ℕ). reaches (parentOf s) 1 (probeCount s) u ≡ true) (at .1)
+          (walk-arrives (parentOf s) (probeCount s) k (inOrder-accepted _ _ walks k (at .0)));
     }
 
 pub accepted-yard : (s : List ℕ) → isAccepted (sheetTest s) ≡ true → AcceptedYard s

@@ -23,7 +23,7 @@ use Rattle.meaning.specs.Answer.{accepted, isAccepted, given, _then_, sheetTest
 use Rattle.meaning.specs.Judge.{Judging, slotTest, slotJudged, slotsJudged, planJudgedBy, planJudged, judgeIn}
 use Rattle.meaning.specs.Legal.{clash, Legal, mayOf, goesOf, heldIn, RunsIn, Arrived, GoodIn}
 use Rattle.laws.proofs.Turns.{below-or-last, forEach-one, some-none, none-some}
-use Rattle.laws.proofs.Walk.{not-both, probe-yes, probe-least, probe-most}
+use Rattle.laws.proofs.Walk.{not-both, probe-yes, probe-at}
 use Rattle.laws.proofs.Conflicting.{entry-conflict, interfere-sym}
 use Rattle.laws.proofs.Accepted.{then-goes, then-accepted, given-accepted, accepted-yard}
 use Rattle.laws.proofs.Passed.{told, Passes, turn}
@@ -272,11 +272,9 @@ two-of (a ∷ b ∷ rest) h high low = ap₂ (λ (x y : ℕ). x ∷ y ∷ []) fi
 -- nothing is outside the gateway exactly where no probe holds a packet
 pub none-outside : (s held : List ℕ) → outside (probeCount s) held ≡ false → Arrived s held
 none-outside s held e v probe =
-    let least = probe-least (probeCount s) v probe in
-    let last = probe-most (probeCount s) v probe in
-    let its : v - 2 + 2 ≡ v = omega arith in
-    let none = ltb-false 0 (getD held (v - 2 + 2) 0) (some-none (probeCount s) (λ k. holds held (k + 2)) e (v - 2) (omega arith)) in
-    omega (arith, none, ap (λ (u : ℕ). getD held u 0) its)
+    let at = probe-at (probeCount s) v probe in
+    let none = ltb-false 0 (getD held (v - 2 + 2) 0) (some-none (probeCount s) (λ k. holds held (k + 2)) e (v - 2) (at .0)) in
+    omega (arith, none, ap (λ (u : ℕ). getD held u 0) (at .1))
 
 pub outside-none : (s held : List ℕ) → Arrived s held → outside (probeCount s) held ≡ false
 outside-none s held arrived =

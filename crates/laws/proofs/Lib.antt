@@ -11,6 +11,7 @@ pub mod Colouring
 pub mod Conflicting
 pub mod Accepted
 pub mod Grounds
+pub mod Children
 pub mod Modes
 pub mod Running
 pub mod Passed
@@ -25,4 +26,5 @@ pub mod MergedHeld
 pub mod MergedExact
 pub mod MergedDepth
 pub mod PlanMade
+pub mod Telling
 pub mod Used

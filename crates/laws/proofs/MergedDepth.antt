@@ -1,7 +1,7 @@
 -- A good merged plan has at least as many slots as its yard is deep: each probe sends before its parent, so from the slot in which it sends there are as many
 -- slots left as its level. By recursion on the level.
 use mathlib.Core.Path.{_≡_, refl}
-use mathlib.Core.Bool.{true, false}
+use mathlib.Core.Bool.{true}
 use mathlib.Core.List.{List}
 use mathlib.Core.Logic.{⊎-elim}
 use Prim.Native.Nat.{ℕ, zero, suc, _+_, _≤_}

@@ -1,19 +1,19 @@
 -- What is held of merged readings: a probe has its own reading until the slot in which it sends, and none from then on, since what is sent goes to the
 -- gateway; to be ready is to have it while no child has one. By recursion over senders and slots.
 use mathlib.Core.Path.{_≡_, refl, sym, ap, ap₂, _∙_, subst}
-use mathlib.Core.Bool.{Bool, true, false, cond, not, _&&_}
+use mathlib.Core.Bool.{Bool, true, cond, not, _&&_}
 use mathlib.Core.List.{List, [], _∷_}
 use mathlib.Core.Logic.{_⊎_, inl, inr, _≢_, ⊎-elim}
 use Prim.Native.Nat.{ℕ, zero, suc, _+_, _-_, _≤_, _<_}
 use native.Mathlib.Nat.{not-suc-le-zero, le-of-suc-le-suc}
 use native.Mathlib.Omega.{arith}
-use lib.Dec.{eqb}
+use lib.Dec.{eqb, ltb}
 use lib.ListN.{length, getD, take, set}
 use lib.Seq.{getD-set-same, getD-set-other, take-suc}
 use borrow.Author.Tests.{ltb-true, ltb-false, lt-ltb, eqb-true, eq-eqb, not-true}
 use Rattle.meaning.specs.declared.Mode.{Mode}
 use Rattle.meaning.specs.declared.Mode.the-variants.{Merged}
-use Rattle.meaning.specs.Words.{some, places}
+use Rattle.meaning.specs.Words.{places}
 use Rattle.meaning.specs.Yard.{isProbe}
 use Rattle.meaning.specs.Sheet.{probeCount}
 use Rattle.meaning.specs.Rounds.{holds, ready, firstIn, hop, moved, heldAfter, waits}
@@ -21,11 +21,12 @@ use Rattle.meaning.specs.Answer.{isAccepted, sheetTest}
 use Rattle.meaning.specs.Book.{among}
 use Rattle.meaning.specs.Legal.{Legal, mayOf, goesOf, heldIn, RunsIn}
 use Rattle.meaning.specs.Merged.{SendsIn}
-use Rattle.laws.proofs.Turns.{below-or-last, same-or-other, some-found, some-where, some-none, none-some, length-tab, getD-tab}
-use Rattle.laws.proofs.Walk.{not-both, probe-yes, probe-least, probe-most}
+use Rattle.laws.proofs.Turns.{below-or-last, same-or-other, some-found, some-where, length-tab, getD-tab}
+use Rattle.laws.proofs.Walk.{not-both, probe-least, probe-most}
 use Rattle.laws.proofs.Moving.{length-hop, length-moved}
 use Rattle.laws.proofs.Slots.{and-left, and-right, true-or-false}
 use Rattle.laws.proofs.Grounds.{few-probes}
+use Rattle.laws.proofs.Children.{no-child, of-no-child}
 use Rattle.laws.proofs.Modes.{ready-is}
 use Rattle.laws.proofs.Exact.{held-append}
 
@@ -111,39 +112,20 @@ module _ (p : ℕ) (parent : ℕ → ℕ) (held : List ℕ) (v : ℕ) where
     pub has : 0 < getD held v 0
     pub sent : (c : ℕ) → isProbe p c ≡ true → parent c ≡ v → getD held c 0 ≡ 0
 
-  abbrev is-child : ℕ → Bool
-  is-child c = eqb (parent c) v && holds held c
-
   pub ready-waited : v < places → 0 < getD (ready p parent held) v 0 → Waited
   ready-waited node h =
       let both = sym (ready-is p parent held v node) ∙ lt-ltb 0 (getD (ready p parent held) v 0) h in
       let none = not-true (waits p parent held v) (and-right (holds held v) (not (waits p parent held v)) both) in
       record {
         has = ltb-true 0 (getD held v 0) (and-left (holds held v) (not (waits p parent held v)) both);
-        sent =
-            λ c probe its.
-            let low = probe-least p c probe in
-            let high = probe-most p c probe in
-            let back : c - 2 + 2 ≡ c = omega arith in
-            let test = subst (λ (u : ℕ). is-child u ≡ false) back (some-none p (λ k. is-child (k + 2)) none (c - 2) (omega arith)) in
-            ⊎-elim (λ yes. not-both (ap₂ _&&_ (eq-eqb (parent c) v its) yes) test) (λ no. omega (arith, ltb-false 0 (getD held c 0) no))
-            (true-or-false (holds held c));
+        sent = λ c probe its. omega (arith, ltb-false 0 (getD held c 0) (of-no-child p parent (holds held) v none c probe its));
       }
 
   pub waited-ready : v < places → Waited → 0 < getD (ready p parent held) v 0
   waited-ready node waited =
+      let none = no-child p parent (holds held) v (λ c probe its. ap (ltb 0) (waited .sent c probe its)) in
       ltb-true 0 (getD (ready p parent held) v 0)
-      (ready-is p parent held v node ∙ ap₂ _&&_ (lt-ltb 0 (getD held v 0) (waited .has)) (ap not (none-some p (λ k. is-child (k + 2)) none)))
-    where
-      none : (k : ℕ) → k < p → is-child (k + 2) ≡ false
-      none k h =
-          ⊎-elim
-          (λ yes.
-          let its = eqb-true (parent (k + 2)) v (and-left (eqb (parent (k + 2)) v) (holds held (k + 2)) yes) in
-          let more = ltb-true 0 (getD held (k + 2) 0) (and-right (eqb (parent (k + 2)) v) (holds held (k + 2)) yes) in
-          absurd (omega (arith, more, waited .sent (k + 2) (probe-yes p (k + 2) (omega arith) (omega arith)) its)))
-          (λ no. no)
-          (true-or-false (is-child (k + 2)))
+      (ready-is p parent held v node ∙ ap₂ _&&_ (lt-ltb 0 (getD held v 0) (waited .has)) (ap not none))
 
 -- what is held when k slots have been sent
 module _ (s : List ℕ) (slots : List (List ℕ)) where

@@ -1,6 +1,6 @@
 -- Packets and merged readings alike: who may send holds something, what is sent goes to a node that is one sending nearer, and what is held at first weighs the
 -- sendings. Of merged readings the yard is a star: each reading that is sent has arrived.
-use mathlib.Core.Path.{_≡_, refl, sym, ap, ap₂, _∙_, subst}
+use mathlib.Core.Path.{_≡_, refl, sym, ap, ap₂, _∙_}
 use mathlib.Core.Bool.{Bool, true, false, cond, not, _&&_}
 use mathlib.Core.List.{List}
 use mathlib.Core.Logic.{⊎-elim}
@@ -8,22 +8,22 @@ use Prim.Native.Nat.{ℕ, zero, suc, _+_, _-_, _*_, _≤_, _<_}
 use native.Mathlib.Nat.{zero-mul}
 use native.Mathlib.Decide.{decLt}
 use native.Mathlib.Omega.{arith}
-use borrow.Author.Tests.{eqb-true}
-use lib.Dec.{eqb, ltb}
-use lib.ListN.{length, getD, List·getD-eq-default}
+use lib.Dec.{ltb}
+use lib.ListN.{getD, List·getD-eq-default}
 use Rattle.meaning.specs.declared.Mode.{Mode}
 use Rattle.meaning.specs.declared.Mode.the-variants.{Packets, Merged}
 use Rattle.meaning.specs.Words.{tab, places}
 use Rattle.meaning.specs.Yard.{isProbe, levelBy, climb}
 use Rattle.meaning.specs.Sheet.{probeCount, parentOf, levelOf}
-use Rattle.meaning.specs.Rounds.{holds, outside, waits, ready, mayIn, goesIn, firstIn, sendingsIn}
+use Rattle.meaning.specs.Rounds.{holds, outside, waits, ready, mayIn, firstIn, sendingsIn}
 use Rattle.meaning.specs.Answer.{isAccepted, sheetTest}
 use Rattle.meaning.specs.Legal.{mayOf, goesOf, heldIn}
 use Rattle.laws.proofs.Turns.{some-where, sum-same, sum-constant, length-tab, getD-tab}
 use Rattle.laws.proofs.Walk.{not-both, probe-yes, probe-least, probe-most, climb-on, climb-here}
 use Rattle.laws.proofs.Moving.{weigh}
-use Rattle.laws.proofs.Slots.{and-left, and-right, true-or-false}
+use Rattle.laws.proofs.Slots.{and-left, true-or-false}
 use Rattle.laws.proofs.Grounds.{few-probes, sum-probes, level-up, level-most, first-left, hops-most, few-packets, parent-node}
+use Rattle.laws.proofs.Children.{child-found}
 
 module _ (p : ℕ) (parent : ℕ → ℕ) (held : List ℕ) (v : ℕ) where
   -- a node is ready exactly when it has not sent and all its children have
@@ -126,14 +126,12 @@ module _ (s : List ℕ) (ok : isAccepted (sheetTest s) ≡ true) where
 
     child : (v : ℕ) → waits (probeCount s) (parentOf s) held v ≡ true → Child v
     child v some =
-        let found = some-where (probeCount s) (λ k. eqb (parentOf s (k + 2)) v && holds held (k + 2)) some in
-        let is = probe-yes (probeCount s) (found .0 + 2) (omega arith) (omega (arith, found .1)) in
-        let its = eqb-true (parentOf s (found .0 + 2)) v (and-left (eqb (parentOf s (found .0 + 2)) v) (holds held (found .0 + 2)) (found .2)) in
+        let found = child-found (probeCount s) (parentOf s) (holds held) v some in
         record {
-          node = found .0 + 2;
-          probe = is;
-          has = and-right (eqb (parentOf s (found .0 + 2)) v) (holds held (found .0 + 2)) (found .2);
-          level = level-up s ok (found .0 + 2) is ∙ ap (λ (u : ℕ). suc (levelOf s u)) its;
+          node = found .0;
+          probe = found .1;
+          has = found .3;
+          level = level-up s ok (found .0) (found .1) ∙ ap (λ (u : ℕ). suc (levelOf s u)) (found .2);
         }
 
     abbrev Ready : Type 0

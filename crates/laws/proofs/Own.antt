@@ -24,8 +24,8 @@ use Rattle.meaning.specs.Rounds.{Progress, recorded, Way, turn, round, rounds, 
 use Rattle.meaning.specs.Answer.{accepted, isAccepted, sheetTest}
 use Rattle.meaning.specs.Judge.{judgeIn}
 use Rattle.meaning.specs.Legal.{Legal, mayOf, goesOf, heldIn, RunsIn, Arrived, GoodIn}
-use Rattle.laws.proofs.Turns.{below-or-last, forEach-keeps, some-found, some-where, length-tab, getD-tab}
-use Rattle.laws.proofs.Walk.{not-both, probe-yes, probe-least, probe-most}
+use Rattle.laws.proofs.Turns.{below-or-last, forEach-keeps, some-found, length-tab, getD-tab}
+use Rattle.laws.proofs.Walk.{not-both, probe-yes, probe-least, probe-most, probe-at}
 use Rattle.laws.proofs.Moving.{Each, length-moved}
 use Rattle.laws.proofs.Slots.{Only, and-left, and-right, never, true-or-false, only-joined, each-slot, rising-slot}
 use Rattle.laws.proofs.Accepted.{accepted-yard}
@@ -47,7 +47,7 @@ pub record Fair (s : List ℕ) (owners : ℕ → (ℕ → Bool) → List Bool) (
 -- a way over the sheet's own probes, parents and conflicts
 abbrev pub wayOver : Mode → List ℕ → (ℕ → (ℕ → Bool) → List Bool) → ℕ → Way
 wayOver mode s owners colours =
-    record { probes = probeCount s; parent = goesOf mode s; relation = entry (conflictTable s); may = mayOf mode s; owners = owners; colours = colours }
+    record { probes = probeCount s; goes = goesOf mode s; relation = entry (conflictTable s); may = mayOf mode s; owners = owners; colours = colours }
 
 -- what is true of a plan of our own: it is good, the judge passes it and counts its slots, and they and their bytes are no more than the sendings allow
 pub record OwnPlan (mode : Mode) (s : List ℕ) (way : Way) : Type 0 where
@@ -301,13 +301,6 @@ module _ (s : List ℕ) (ok : isAccepted (sheetTest s) ≡ true) where
   small : probeCount s ≤ 63
   small = accepted-yard s ok .few
 
-  -- v, as a probe counted from 0
-  counted : (v : ℕ) → isProbe (probeCount s) v ≡ true → (v - 2 + 2 ≡ v) × (v - 2 < probeCount s)
-  counted v h =
-      let least = probe-least (probeCount s) v h in
-      let last = probe-most (probeCount s) v h in
-      (omega arith, omega arith)
-
   abbrev probeColour : ℕ → ℕ
   probeColour v = getD (probeColours s) v 0
 
@@ -329,15 +322,15 @@ module _ (s : List ℕ) (ok : isAccepted (sheetTest s) ≡ true) where
             (true-or-false (entry (conflictTable s) x y));
         served =
             λ may v probe m.
-            let its = counted v probe in
+            let at = probe-at (probeCount s) v probe in
             let from : 1 ≤ probeColour v = probes-proper s ok .inside v (probe-least (probeCount s) v probe) (omega (arith, probe-most (probeCount s) v probe)) in
-            let node : v < places = omega (arith, its .0, its .1, small) in (
+            let node : v < places = omega (arith, at .0, at .1, small) in (
               probeColour v - 1,
               omega (arith, from, most-holds places probeColour v node),
-              some-found (probeCount s) _ (v - 2) (its .1)
+              some-found (probeCount s) _ (v - 2) (at .0)
                   (subst
                   (λ (u : ℕ). getD (tab places (λ w. eqb (probeColour w) (probeColour v - 1 + 1) && may w)) u false ≡ true)
-                  (sym (its .0))
+                  (sym (at .1))
                   (getD-tab places _ v false node
                   ∙ ap₂ _&&_ (eq-eqb (probeColour v) (probeColour v - 1 + 1) (omega arith)) m)),
             );
@@ -370,16 +363,16 @@ module _ (s : List ℕ) (ok : isAccepted (sheetTest s) ≡ true) where
             (λ x y hx hy. never (sym (nobody-chosen places x) ∙ hx));
         served =
             λ may v probe m.
-            let its = counted v probe in
+            let at = probe-at (probeCount s) v probe in
             let l : ℕ = levelOf s v in
-            let deep : l ≤ depth s = subst (λ (u : ℕ). levelOf s u ≤ depth s) (its .0) (level-deep s ok (v - 2) (its .1)) in
+            let deep : l ≤ depth s = subst (λ (u : ℕ). levelOf s u ≤ depth s) (at .1) (level-deep s ok (v - 2) (at .0)) in
             let from : 1 ≤ levelColour v = levels-proper s ok .inside l (level-least s ok v probe) (omega arith) in (
               levelColour v - 1,
               omega (arith, from, most-holds places (λ u. getD (levelColours s) u 0) l (omega (arith, deep, depth-most s ok, small))),
               one-joined (entry (conflictTable s)) (λ u. eqb (levelColour u) (levelColour v - 1 + 1) && may u) 2
-                  (probeCount s) (table-conflicts s ok) (omega (arith, small)) (probeCount s) (v - 2) (replicate places false) refl (its .1) (omega arith)
-                  (omega arith) (omega (arith, its .1, small))
-                  (subst (λ (u : ℕ). (eqb (levelColour u) (levelColour v - 1 + 1) && may u) ≡ true) (sym (its .0))
+                  (probeCount s) (table-conflicts s ok) (omega (arith, small)) (probeCount s) (v - 2) (replicate places false) refl (at .0) (omega arith)
+                  (omega arith) (omega (arith, at .0, small))
+                  (subst (λ (u : ℕ). (eqb (levelColour u) (levelColour v - 1 + 1) && may u) ≡ true) (sym (at .1))
                   (ap₂ _&&_ (eq-eqb (levelColour v) (levelColour v - 1 + 1) (omega arith)) m)),
             );
       }

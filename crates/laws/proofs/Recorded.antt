@@ -48,16 +48,16 @@ one-keeps parent slot now sends has k h =
     (below-or-last k (length (now .slots)) (omega (arith, length-append (now .slots) (slot ∷ []))))
 
 module _ (way : Way) where
-  turn-keeps : (s : ℕ) (now : Progress) → HaveSenders now → HaveSenders (recorded (way .parent) (turn way s (now .held)) now)
+  turn-keeps : (s : ℕ) (now : Progress) → HaveSenders now → HaveSenders (recorded (way .goes) (turn way s (now .held)) now)
   turn-keeps s now has =
       of-turn (way .probes) (way .relation) (holds (way .may (now .held))) (way .owners s (holds (way .may (now .held))))
-      (λ slots. HaveSenders (recorded (way .parent) slots now))
-      (subst HaveSenders (sym (recorded-none (way .parent) now)) has) (λ sends. one-keeps (way .parent) _ now sends has)
+      (λ slots. HaveSenders (recorded (way .goes) slots now))
+      (subst HaveSenders (sym (recorded-none (way .goes) now)) has) (λ sends. one-keeps (way .goes) _ now sends has)
 
   round-keeps : (now : Progress) → HaveSenders now → HaveSenders (round way now)
   unfolding round
   round-keeps now has =
-      forEach-keeps HaveSenders (way .colours) (λ s was. recorded (way .parent) (turn way (s + 1) (was .held)) was) now has (λ s _. turn-keeps (s + 1))
+      forEach-keeps HaveSenders (way .colours) (λ s was. recorded (way .goes) (turn way (s + 1) (was .held)) was) now has (λ s _. turn-keeps (s + 1))
 
   -- another round, or none
   busy-keeps : (b : Bool) (now : Progress) → HaveSenders now → HaveSenders (cond b (round way now) now)

@@ -48,6 +48,13 @@ probe-most p v e = go (leb v (p + 1)) refl
     go true q = leb-true v (p + 1) q
     go false q = not-both e (ap (λ (b : Bool). leb 2 v && b) q ∙ and-false (leb 2 v))
 
+-- the number of a probe, from 0
+pub probe-at : (p v : ℕ) → isProbe p v ≡ true → (v - 2 < p) × (v - 2 + 2 ≡ v)
+probe-at p v e =
+    let least = probe-least p v e in
+    let most = probe-most p v e in
+    (omega arith, omega arith)
+
 module _ (parent : ℕ → ℕ) where
   -- at its end a walk has arrived, with no hop
   pub reaches-here : (top left v : ℕ) → v ≡ top → reaches parent top left v ≡ true

@@ -3,15 +3,13 @@
 use mathlib.Core.Path.{_≡_, refl, sym, ap, _∙_}
 use mathlib.Core.Bool.{Bool, true, false, cond}
 use mathlib.Core.Logic.{_≢_, ⊎-elim}
-use Prim.Native.Nat.{ℕ, zero, suc, _+_, _-_, _≤_, _<_}
+use Prim.Native.Nat.{ℕ, zero, suc, _+_, _-_, _≤_}
 use native.Mathlib.Omega.{arith}
 use Rattle.meaning.specs.Words.{mostProbes}
 use Rattle.meaning.specs.Yard.{isProbe, reaches, climb, branchPackets, heaviestOf, levelsBelow, longestOf, lagOn, branchLag, slowestOf}
 use Rattle.laws.proofs.Turns.{same-or-other}
-use Rattle.laws.proofs.Walk.{not-both, probe-yes, probe-least, probe-most, reaches-here, reaches-on, reaches-none, lag-here, lag-on}
-use Rattle.laws.proofs.Slots.{true-or-false}
+use Rattle.laws.proofs.Walk.{not-both, probe-yes, probe-least, probe-most, probe-at, reaches-here, reaches-on, reaches-none, lag-here, lag-on}
 use Rattle.laws.proofs.Levels.{most-holds, most-within}
-use Rattle.limits.proofs.Sums.{probe-at}
 use Rattle.limits.proofs.Branch.{Rooted, gone, reaches-same, level-up, falls}
 
 module _ (parent : ℕ → ℕ) where

@@ -16,12 +16,12 @@ use Rattle.meaning.specs.Sheet.{probeCount, parentOf, levelOf}
 use Rattle.meaning.specs.Colour.{depth}
 use Rattle.meaning.specs.Answer.{isAccepted, sheetTest}
 use Rattle.laws.proofs.Turns.{sum-same, same-or-other}
-use Rattle.laws.proofs.Walk.{probe-yes, probe-least, probe-most, probe-below}
+use Rattle.laws.proofs.Walk.{probe-yes, probe-least, probe-most, probe-below, probe-at}
 use Rattle.laws.proofs.Slots.{true-or-false}
 use Rattle.laws.proofs.Grounds as Grounds
 use Rattle.laws.proofs.Levels as Levels
 use Rattle.limits.specs.Sent.{inflow}
-use Rattle.limits.proofs.Sums.{zero-either, sum-zero, sum-add, sum-swap, sum-cond, probe-at, probes-only}
+use Rattle.limits.proofs.Sums.{zero-either, sum-zero, sum-add, sum-swap, sum-cond, probes-only}
 use Rattle.limits.proofs.Served.{inflow-part}
 use Rattle.limits.proofs.AcceptedYard as Yard
 

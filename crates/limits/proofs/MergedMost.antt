@@ -1,53 +1,33 @@
 -- Merged readings: never more slots than colours times depth. A probe all of whose children have sent when a round begins has sent when it ends, at the latest in its own
 -- colour's turn; so after each round one level more has sent, from the deepest up, and after as many rounds as there are levels all have.
-use mathlib.Core.Path.{_≡_, ap, ap₂, _∙_, subst}
-use mathlib.Core.Bool.{Bool, true, false, cond, _&&_}
+use mathlib.Core.Path.{_≡_, ap, _∙_}
+use mathlib.Core.Bool.{Bool, true, false, cond}
 use mathlib.Core.List.{List}
 use mathlib.Core.Logic.{⊎-elim}
 use Prim.Native.Nat.{ℕ, zero, suc, _+_, _-_, _*_, _≤_, _<_, min}
 use native.Mathlib.Omega.{arith}
 use lib.Dec.{eqb}
 use lib.ListN.{length, getD}
-use borrow.Author.Tests.{eqb-true, eq-eqb, eqb-false, ne-eqb}
+use borrow.Author.Tests.{eqb-true, eqb-false, ne-eqb}
 use Rattle.meaning.specs.declared.Mode.the-variants.{Merged}
-use Rattle.meaning.specs.Words.{someProbe, places}
+use Rattle.meaning.specs.Words.{places}
 use Rattle.meaning.specs.Yard.{isProbe}
 use Rattle.meaning.specs.Sheet.{probeCount, parentOf, levelOf}
 use Rattle.meaning.specs.Colour.{coloursUsed, probeColours, depth}
 use Rattle.meaning.specs.Rounds.{Progress, ready, firstIn, merged, slotsIn}
 use Rattle.meaning.specs.Answer.{isAccepted, sheetTest}
-use Rattle.laws.proofs.Turns.{some-none, none-some, sum-least}
-use Rattle.laws.proofs.Walk.{probe-least, probe-most, probe-yes}
+use Rattle.laws.proofs.Turns.{sum-least}
+use Rattle.laws.proofs.Walk.{probe-least, probe-most, probe-yes, probe-at}
 use Rattle.laws.proofs.Slots.{true-or-false}
 use Rattle.laws.proofs.Grounds.{level-up, level-least}
 use Rattle.laws.proofs.Levels.{level-deep}
+use Rattle.laws.proofs.Children.{child, no-child, of-no-child}
 use Rattle.laws.proofs.MergedHeld.{waited-ready}
 use Rattle.limits.specs.Sent.{inflow, sent}
-use Rattle.limits.proofs.Sums.{sum-zero, probe-at}
+use Rattle.limits.proofs.Sums.{sum-zero}
 use Rattle.limits.proofs.Serving.{Kept, turn, after, more-sent, slots-most}
 use Rattle.limits.proofs.MostByProbe.{by, serves-in}
 use Rattle.limits.proofs.AcceptedYard as Yard
-
--- some child of v passes the test
-abbrev child : (p : ℕ) → (parent : ℕ → ℕ) → (test : ℕ → Bool) → ℕ → Bool
-child p parent test v = someProbe p (λ c. eqb (parent c) v && test c)
-
-module _ (p : ℕ) (parent : ℕ → ℕ) (test : ℕ → Bool) (v : ℕ) where
-  -- none does, said child by child: it follows from that, and that from it
-  no-child : ((c : ℕ) → isProbe p c ≡ true → parent c ≡ v → test c ≡ false) → child p parent test v ≡ false
-  no-child none =
-      none-some p (λ k. eqb (parent (k + 2)) v && test (k + 2))
-      (λ k h.
-      ⊎-elim (λ its. ap₂ _&&_ its (none (k + 2) (probe-yes p (k + 2) (omega arith) (omega arith)) (eqb-true (parent (k + 2)) v its)))
-      (λ other. ap (λ (b : Bool). b && test (k + 2)) other)
-      (true-or-false (eqb (parent (k + 2)) v)))
-
-  of-no-child : child p parent test v ≡ false → (c : ℕ) → isProbe p c ≡ true → parent c ≡ v → test c ≡ false
-  of-no-child none c h its =
-      let at = probe-at p c h in
-      let here : (eqb (parent c) v && test c) ≡ false =
-      subst (λ (u : ℕ). (eqb (parent u) v && test u) ≡ false) (at .1) (some-none p (λ k. eqb (parent (k + 2)) v && test (k + 2)) none (c - 2) (at .0)) in
-      subst (λ (b : Bool). (b && test c) ≡ false) (eq-eqb (parent c) v its) here
 
 module _ (s : List ℕ) (ok : isAccepted (sheetTest s) ≡ true) where
   abbrev Going : Progress → Type 0

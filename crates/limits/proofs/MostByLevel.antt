@@ -22,14 +22,14 @@ use Rattle.meaning.specs.Colour.{coloursUsed, depth, levelColours}
 use Rattle.meaning.specs.Rounds.{Progress, holds, outside, clashes, joins, joined, ownersByLevel, turn as turnSlots, byLevel, slotsIn, slotsOf}
 use Rattle.meaning.specs.Answer.{isAccepted, sheetTest}
 use Rattle.laws.proofs.Turns.{forEach-one, some-none, some-where, same-or-other}
-use Rattle.laws.proofs.Walk.{probe-least, probe-most, probe-yes, reaches-here, reaches-on, climb-most}
+use Rattle.laws.proofs.Walk.{probe-least, probe-most, probe-yes, probe-at, reaches-here, reaches-on, climb-most}
 use Rattle.laws.proofs.Slots.{Only, only-joined, and-left, and-right, never, true-or-false}
 use Rattle.laws.proofs.Joining.{nobody-chosen, joined-long, joined-keep}
 use Rattle.laws.proofs.Grounds.{level-least}
 use Rattle.laws.proofs.Levels.{most-holds, table-conflicts, level-deep, depth-most, levels-proper}
 use Rattle.limits.specs.Sent.{inflow, sent}
 use Rattle.limits.specs.LineOfLevels.{lineLag}
-use Rattle.limits.proofs.Sums.{zero-either, sum-zero, probe-at}
+use Rattle.limits.proofs.Sums.{zero-either, sum-zero}
 use Rattle.limits.proofs.Served.{served, inflow-least, inflow-part}
 use Rattle.limits.proofs.Sending.{inflow-add, inflow-same}
 use Rattle.limits.proofs.Serving.{Owning, Kept, way, turn, after, more-sent, turn-sent, owner-sends, serves, slots-most}

@@ -23,11 +23,10 @@ use Rattle.meaning.specs.Answer.{isAccepted, sheetTest}
 use Rattle.meaning.specs.Legal.{mayOf}
 use Rattle.laws.proofs.Turns.{some-none, getD-tab, length-tab}
 use Rattle.laws.proofs.Modes.{may-holds}
-use Rattle.laws.proofs.Walk.{not-both, probe-least, probe-most, probe-yes}
+use Rattle.laws.proofs.Walk.{not-both, probe-least, probe-most, probe-yes, probe-at}
 use Rattle.laws.proofs.Slots.{Only, and-right, never, true-or-false}
 use Rattle.laws.proofs.Levels.{most-holds, probes-proper}
 use Rattle.limits.specs.Sent.{inflow, sent}
-use Rattle.limits.proofs.Sums.{probe-at}
 use Rattle.limits.proofs.Served.{served, inflow-least}
 use Rattle.limits.proofs.Branch.{branch-own, branch-all}
 use Rattle.limits.proofs.Lag.{lags, in-slowest, slowest-longest, slowest-heaviest}

@@ -16,10 +16,9 @@ use Rattle.meaning.specs.Conflict.{entry, tableOf, conflictTable}
 use Rattle.meaning.specs.Colour.{levelsConflict, levels, levelColours}
 use Rattle.meaning.specs.Answer.{isAccepted, sheetTest}
 use Rattle.laws.proofs.Turns.{some-found, getD-tab, same-or-other}
-use Rattle.laws.proofs.Walk.{probe-yes, probe-most}
+use Rattle.laws.proofs.Walk.{probe-yes, probe-most, probe-at}
 use Rattle.laws.proofs.Grounds.{few-probes, level-most}
 use Rattle.laws.proofs.Levels.{table-conflicts, levels-proper}
-use Rattle.limits.proofs.Sums.{probe-at}
 
 -- a probe of each of two levels that conflict
 levels-conflict : (p : ℕ) (level : ℕ → ℕ) (relation : ℕ → ℕ → Bool) (a b x y : ℕ) → isProbe p x ≡ true → isProbe p y ≡ true → level x ≡ a → level y ≡ b

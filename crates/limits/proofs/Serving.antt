@@ -19,7 +19,7 @@ use Rattle.meaning.specs.Rounds.{Progress, Way, holds, outside, firstIn, joined
 use Rattle.meaning.specs.Answer.{isAccepted, sheetTest}
 use Rattle.meaning.specs.Legal.{mayOf, goesOf}
 use Rattle.laws.proofs.Turns.{in-sum, below-or-last, forEach-keeps, forEach-stays, some-found, none-some, sum-same, getD-tab, length-tab, same-or-other}
-use Rattle.laws.proofs.Walk.{probe-yes}
+use Rattle.laws.proofs.Walk.{probe-yes, probe-at}
 use Rattle.laws.proofs.Moving.{Each, Sender, length-moved}
 use Rattle.laws.proofs.Slots.{Only, each-slot, each-so, rising-slot}
 use Rattle.laws.proofs.Joining.{chosen-within, joined-keep}
@@ -27,7 +27,7 @@ use Rattle.laws.proofs.Modes.{may-holds, goes-node}
 use Rattle.laws.proofs.Recorded.{recorded-none, of-turn}
 use Rattle.laws.proofs.Own.{wayOver}
 use Rattle.limits.specs.Sent.{inflow, sentIn, sent}
-use Rattle.limits.proofs.Sums.{forEach-counts, sum-add, probe-at}
+use Rattle.limits.proofs.Sums.{forEach-counts, sum-add}
 use Rattle.limits.proofs.Sending.{inflow-add, inflow-same, inflow-all, slot-balance, sent-append, sent-one, sender-counts, inflow-none}
 use Rattle.limits.proofs.AcceptedYard as Yard
 

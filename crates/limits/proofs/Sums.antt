@@ -10,7 +10,7 @@ use borrow.Author.Tests.{eq-eqb, ne-eqb}
 use Rattle.meaning.specs.Words.{forEach, sum, sumProbes}
 use Rattle.meaning.specs.Yard.{isProbe}
 use Rattle.laws.proofs.Turns.{below-or-last, sum-same, sum-least}
-use Rattle.laws.proofs.Walk.{probe-yes, probe-least, probe-most}
+use Rattle.laws.proofs.Walk.{probe-yes, probe-at}
 
 -- what each turn carries on, with the number of turns
 pub forEach-counts : {A : Type 0} (P : ℕ → A → Type 0) (n : ℕ) (step : ℕ → A → A) (start : A) → P 0 start
@@ -59,13 +59,6 @@ sum-only (suc n) f j h none =
     (λ (l : j < n). omega (arith, sum-only n f j l (λ k hk. none k (omega arith)), none n (omega arith) (λ e. omega arith)))
     (λ (l : j ≡ n). omega (arith, sum-zero n f (λ k hk. none k (omega arith) (λ e. omega arith)), ap f l))
     (below-or-last j n h)
-
--- the number of a probe, from 0
-pub probe-at : (p v : ℕ) → isProbe p v ≡ true → (v - 2 < p) × (v - 2 + 2 ≡ v)
-probe-at p v h =
-    let least = probe-least p v h in
-    let last = probe-most p v h in
-    (omega arith, omega arith)
 
 -- a sum over the probes with one term that counts
 pub probes-only : (p : ℕ) (f : ℕ → ℕ) (v : ℕ) → isProbe p v ≡ true → ((u : ℕ) → (u ≡ v → ⊥) → f u ≡ 0) → sumProbes p f ≡ f v

@@ -14,10 +14,9 @@ use Rattle.meaning.specs.Yard.{isProbe, reaches, branchPackets}
 use Rattle.meaning.specs.Sheet.{probeCount, parentOf, packetsOf, heaviest}
 use Rattle.meaning.specs.Answer.{isAccepted, sheetTest}
 use Rattle.laws.proofs.Turns.{same-or-other, in-sum}
-use Rattle.laws.proofs.Walk.{probe-yes, probe-least, reaches-on, reaches-none}
+use Rattle.laws.proofs.Walk.{probe-yes, probe-least, probe-at, reaches-on, reaches-none}
 use Rattle.laws.proofs.Levels.{most-holds, most-within}
 use Rattle.limits.specs.Sent.{inflow}
-use Rattle.limits.proofs.Sums.{probe-at}
 use Rattle.limits.proofs.Branch.{Rooted, branch-own}
 use Rattle.limits.proofs.AcceptedYard.{rooted}
 

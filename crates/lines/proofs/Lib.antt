@@ -3,3 +3,6 @@ pub mod Putting
 pub mod Decimal
 pub mod Lined
 pub mod SendersText
+pub mod Fitting
+pub mod OwnLine
+pub mod PartsLong

@@ -7,11 +7,12 @@ use Prim.Native.Nat.{ℕ, suc, _+_, _≤_, _<_}
 use native.Mathlib.Nat.{zero-add}
 use native.Mathlib.Omega.{arith}
 use borrow.Author.Tests.{le-leb, lt-leb}
-use lib.ListN.{length, drop, length-append}
-use lib.Seq.{sets-eq}
+use lib.ListN.{length, take, drop, length-append}
+use lib.Seq.{sets-eq, length-take-le}
 use Rattle.meaning.specs.Plan.{front}
 use Rattle.meaning.specs.Lister.{text, decimal, said, sendersText, slotLines, numbersLine, slotLine}
 use Rattle.lines.specs.Line.{lineLength, lineIn, Put}
+use Rattle.lines.proofs.Putting.{put-long}
 
 -- what a function that writes a line answers, and the buffer afterwards
 abbrev pub Lined : List ℕ → List ℕ → List ℕ → ℕ → Type 0
@@ -34,6 +35,18 @@ line-put {l} {bytes} {after} {end} h p =
           ∙ ap (λ (k : ℕ). bytes ++ drop k l) none
           ∙ ap (λ (b : Bool). cond b (front l bytes) l) (sym room),
     )
+
+-- what a function that writes an answer says of it: that it is a part of the buffer, and which
+abbrev pub Answered : List ℕ → List ℕ → List ℕ → ℕ → Type 0
+Answered before bytes after answer = ((answer ≤ length after) × (answer ≡ length (take answer after))) × Lined before bytes after answer
+
+pub answered-short : (l bytes : List ℕ) → length l < length bytes → Answered l bytes l 0
+answered-short l bytes h = ((omega arith, refl), line-short l bytes h)
+
+pub answered-put : {l bytes after : List ℕ} {end : ℕ} → length bytes ≤ length l → Put l 0 bytes after end → Answered l bytes after end
+answered-put {after} {end} h p =
+    let within : end ≤ length after = omega (arith, p .ends, put-long p, h) in
+    ((within, sym (length-take-le end after within)), line-put h p)
 
 -- one turn of the other lines is the line of a slot
 pub slot-line : (done : ℕ) (slot : List ℕ) (slots : List (List ℕ)) → slotLines done (slot ∷ slots) ≡ slotLine (suc done) slot ++ slotLines (suc done) slots
@@ -98,8 +111,28 @@ pub numbers-length : (a b c d e : ℕ) → length (numbersLine a b c d e)
     ≡ 42 + (length (decimal 5 a) + length (decimal 5 b)) + (length (decimal 5 c) + length (decimal 5 d)) + length (decimal 5 e)
 unfolding numbersLine
 numbers-length a b c d e =
-    length-append (said "colours" a ++ said " slots" b ++ said " packets" c ++ said " heaviest" d ++ said " least" e) (text "\n")
-    ∙ (omega (arith, length-append (said "colours" a ++ said " slots" b ++ said " packets" c ++ said " heaviest" d) (said " least" e), length-append (said "colours" a ++ said " slots" b ++ said " packets" c) (said " heaviest" d), length-append (said "colours" a ++ said " slots" b) (said " packets" c), length-append (said "colours" a) (said " slots" b), said-length "colours" a, said-length " slots" b, said-length " packets" c, said-length " heaviest" d, said-length " least" e, colours, slots, packets, heaviest-branch, least-slots, newline))
+    let two = said "colours" a ++ said " slots" b in
+    let three = two ++ said " packets" c in
+    let four = three ++ said " heaviest" d in
+    length-append (four ++ said " least" e) (text "\n")
+    ∙ (omega (
+      arith,
+      length-append four (said " least" e),
+      length-append three (said " heaviest" d),
+      length-append two (said " packets" c),
+      length-append (said "colours" a) (said " slots" b),
+      said-length "colours" a,
+      said-length " slots" b,
+      said-length " packets" c,
+      said-length " heaviest" d,
+      said-length " least" e,
+      colours,
+      slots,
+      packets,
+      heaviest-branch,
+      least-slots,
+      newline,
+    ))
 
 pub slot-length : (number : ℕ) (senders : List ℕ) → length (slotLine number senders) ≡ 2 + length (decimal 5 number) + length (sendersText senders)
 unfolding slotLine
@@ -115,7 +148,8 @@ module _ (number place d e long : ℕ) (count-number : d ≡ length (decimal 5 n
   pub refusal-room : 10 + d + e ≤ long → length (said "refused" number ++ said "" place ++ text "\n") ≤ long
   refusal-room h = omega (arith, refusal-length number place)
 
-module _ (a b c d e k l m n o long : ℕ) (count-a : k ≡ length (decimal 5 a)) (count-b : l ≡ length (decimal 5 b)) (count-c : m ≡ length (decimal 5 c)) (count-d : n ≡ length (decimal 5 d)) (count-e : o ≡ length (decimal 5 e)) where
+module _ (a b c d e k l m n o long : ℕ) (count-a : k ≡ length (decimal 5 a)) (count-b : l ≡ length (decimal 5 b))
+    (count-c : m ≡ length (decimal 5 c)) (count-d : n ≡ length (decimal 5 d)) (count-e : o ≡ length (decimal 5 e)) where
   pub numbers-short : long < 42 + (k + l) + (m + n) + o → long < length (numbersLine a b c d e)
   numbers-short h = omega (arith, numbers-length a b c d e)
 

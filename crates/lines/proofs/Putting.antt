@@ -65,9 +65,12 @@ pub put-short : (l : List ℕ) (at : ℕ) (bytes : List ℕ) → length l < at +
 unfolding fitting
 put-short l at bytes h = put-none l at (fitting l at bytes) (rw (lt-leb (at + length bytes) (length l) h))
 
-pub fitted : (l : List ℕ) (at : ℕ) (bytes : List ℕ) → at + length bytes ≤ length l → fitting l at bytes ≡ bytes
+fitted : (l : List ℕ) (at : ℕ) (bytes : List ℕ) → at + length bytes ≤ length l → fitting l at bytes ≡ bytes
 unfolding fitting
 fitted l at bytes h = rw (le-leb (at + length bytes) (length l) h)
 
 pub put-fitting : {l after bytes : List ℕ} {at end : ℕ} → at + length bytes ≤ length l → Put l at bytes after end → Put l at (fitting l at bytes) after end
 put-fitting {l} {after} {bytes} {at} {end} h p = subst (λ (b : List ℕ). Put l at b after end) (sym (fitted l at bytes h)) p
+
+pub put-fitted : {l after bytes : List ℕ} {at end : ℕ} → at + length bytes ≤ length l → Put l at (fitting l at bytes) after end → Put l at bytes after end
+put-fitted {l} {after} {bytes} {at} {end} h p = subst (λ (b : List ℕ). Put l at b after end) (fitted l at bytes h) p

@@ -39,7 +39,8 @@ senders-next s i h =
     ap sendersText longer ∙ senders-append (take i s) (getD s i 0 ∷ []) ∙ ap (λ (l : List ℕ). sendersText (take i s) ++ l) (senders-one (getD s i 0))
 
 -- the sender at i and those behind it
-senders-drop : (s : List ℕ) (i : ℕ) → i < length s → length (sendersText (drop i s)) ≡ 1 + length (decimal 5 (getD s i 0)) + length (sendersText (drop (i + 1) s))
+senders-drop : (s : List ℕ) (i : ℕ) → i < length s
+    → length (sendersText (drop i s)) ≡ 1 + length (decimal 5 (getD s i 0)) + length (sendersText (drop (i + 1) s))
 senders-drop s i h =
     ap (λ (l : List ℕ). length (sendersText l)) (drop-cons s i 0 h)
     ∙ senders-cons (getD s i 0) (drop (suc i) s)
@@ -48,7 +49,10 @@ senders-drop s i h =
 -- there is room for the sender at i
 pub senders-room : (s : List ℕ) (i v : ℕ) → i < length s → v ≡ getD s i 0 → length (sendersText (take i s)) + length (said "" v) ≤ length (sendersText s)
 senders-room s i v h e =
-    let parts = ap (λ (l : List ℕ). length (sendersText l)) (sym (take-append-drop i s)) ∙ ap length (senders-append (take i s) (drop i s)) ∙ length-append (sendersText (take i s)) (sendersText (drop i s)) in
+    let parts =
+    ap (λ (l : List ℕ). length (sendersText l)) (sym (take-append-drop i s))
+    ∙ ap length (senders-append (take i s) (drop i s))
+    ∙ length-append (sendersText (take i s)) (sendersText (drop i s)) in
     omega (arith, parts, senders-drop s i h, sender-length v, ap (λ (k : ℕ). length (decimal 5 k)) e)
 
 pub senders-start : (l s : List ℕ) (at : ℕ) → Put l at (sendersText (take 0 s)) l at
@@ -61,37 +65,38 @@ senders-put {l} {after} {at} {end} s i v h e p q =
     subst (λ (b : List ℕ). Put l at b after end)
     (ap (λ (k : ℕ). sendersText (take i s) ++ said "" k) e ∙ sym (senders-next s i h)) (put-more p q)
 
-pub senders-all : {l after : List ℕ} {at end : ℕ} (s : List ℕ) (i : ℕ) → length s ≤ i → Put l at (sendersText (take i s)) after end → Put l at (sendersText s) after end
+pub senders-all : {l after : List ℕ} {at end : ℕ} (s : List ℕ) (i : ℕ) → length s ≤ i
+    → Put l at (sendersText (take i s)) after end → Put l at (sendersText s) after end
 senders-all {l} {after} {at} {end} s i h p = subst (λ (b : List ℕ). Put l at (sendersText b) after end) (take-all i s h) p
 
 module _ (number : ℕ) (s : List ℕ) (room : ℕ) where
   -- what is left of the room behind the number, the colon, the line's end and the first i senders
-  pub Fits : ℕ → ℕ → Type 0
-  Fits left i = left + length (slotLine number s) ≡ room + length (sendersText (drop i s))
+  pub RoomLeft : ℕ → ℕ → Type 0
+  RoomLeft left i = left + length (slotLine number s) ≡ room + length (sendersText (drop i s))
 
   pub fits-never : (d : ℕ) → d ≡ length (decimal 5 number) → room < 2 + d → false ≡ leb (length (slotLine number s)) room
   fits-never d e h = sym (lt-leb (length (slotLine number s)) room (omega (arith, slot-length number s)))
 
-  pub fits-start : (d : ℕ) → d ≡ length (decimal 5 number) → 2 + d ≤ room → Fits (room - (2 + d)) 0
-  unfolding Fits
+  pub fits-start : (d : ℕ) → d ≡ length (decimal 5 number) → 2 + d ≤ room → RoomLeft (room - (2 + d)) 0
+  unfolding RoomLeft
   fits-start d e h =
       let fits : room - (2 + d) + length (slotLine number s) ≡ room + length (sendersText s) = omega (arith, slot-length number s) in
       fits
 
-  module _ (left i v d : ℕ) (h : i < length s) (e : v ≡ getD s i 0) (q : d ≡ length (decimal 5 v)) (fits : Fits left i) where
+  module _ (left i v d : ℕ) (h : i < length s) (e : v ≡ getD s i 0) (q : d ≡ length (decimal 5 v)) (fits : RoomLeft left i) where
     abbrev digits : d ≡ length (decimal 5 (getD s i 0))
     digits = q ∙ ap (λ (k : ℕ). length (decimal 5 k)) e
 
     pub fits-short : left < 1 + d → false ≡ leb (length (slotLine number s)) room
-    unfolding Fits
+    unfolding RoomLeft
     fits-short short = sym (lt-leb (length (slotLine number s)) room (omega (arith, fits, digits, senders-drop s i h)))
 
-    pub fits-next : 1 + d ≤ left → Fits (left - (1 + d)) (i + 1)
-    unfolding Fits
+    pub fits-next : 1 + d ≤ left → RoomLeft (left - (1 + d)) (i + 1)
+    unfolding RoomLeft
     fits-next enough = omega (arith, fits, digits, senders-drop s i h)
 
-  pub fits-all : (left i : ℕ) → length s ≤ i → Fits left i → true ≡ leb (length (slotLine number s)) room
-  unfolding Fits
+  pub fits-all : (left i : ℕ) → length s ≤ i → RoomLeft left i → true ≡ leb (length (slotLine number s)) room
+  unfolding RoomLeft
   fits-all left i h fits =
       let none = ap (λ (l : List ℕ). length (sendersText l)) (drop-of-length-le s {i = i} h) ∙ none-long in
       sym (le-leb (length (slotLine number s)) room (omega (arith, fits, none)))

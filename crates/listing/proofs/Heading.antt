@@ -22,7 +22,8 @@ module _ (s : List ℕ) (ok : isAccepted (sheetTest s) ≡ true) (tree : Tree) (
       → most ≡ heaviestOf (tree .probes) (λ v. getD (tree .parents) v 0) (λ v. getD (tree .packets) v 0)
       → least ≡ leastSlotsOf (tree .probes) (λ v. getD (tree .parents) v 0) (λ v. getD (tree .packets) v 0)
       → r ≡ lineLength out (numbersLine colours slots all most least) → out′ ≡ lineIn out (numbersLine colours slots all most least)
-      → (r ≡ lineLength out (numbersLine colours slots (allPackets s) (heaviest s) (leastSlots s))) × (out′ ≡ lineIn out (numbersLine colours slots (allPackets s) (heaviest s) (leastSlots s)))
+      → (r ≡ lineLength out (numbersLine colours slots (allPackets s) (heaviest s) (leastSlots s)))
+      × (out′ ≡ lineIn out (numbersLine colours slots (allPackets s) (heaviest s) (leastSlots s)))
   headed colours slots all most least out out′ r sums most-of least-of answer buffer =
       let packets = ap₂ (λ (k n : ℕ). numbersLine colours slots k n least) (sums ∙ all-packets-read s ok tree its) (most-of ∙ heaviest-read s ok tree its) in
       let same = packets ∙ ap (numbersLine colours slots (allPackets s) (heaviest s)) (least-of ∙ least-slots-read s ok tree its) in

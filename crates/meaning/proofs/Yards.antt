@@ -21,7 +21,7 @@ use Rattle.meaning.specs.Sheet.{twoAt, probeCount, parentOf, packetsOf, 
 use Rattle.meaning.specs.Plan.{twoBytes, slotBytes, slotsFrom, roomFor, front}
 use Rattle.meaning.specs.Conflict.{disturb, conflict, tableOf, entry, conflictTable, largestDegree}
 use Rattle.meaning.specs.Colour.{smallestFree, nextOf, colouredBy, probeColours, levelsConflict, levels, depth, levelColours}
-use Rattle.meaning.specs.Rounds.{Way, joined, ownersByProbe, ownersByLevel, slotOf, turnOf, moved, heldAfter, recorded, round, rounds, byProbe, byLevel, slotsIn, slotsOf}
+use Rattle.meaning.specs.Rounds.{Way, joined, ownersByProbe, ownersByLevel, slotOf, turnOf, moved, heldAfter, recorded, round, rounds, byProbe, byLevel, slotsIn}
 use Rattle.meaning.specs.Answer.{accepted, _then_, inOrder, probeTest, walkTest, pairTest, countsTest, sheetTest, planTestIn, planMadeIn, planMade}
 use Rattle.meaning.specs.Judge.{Judging, slotTest, twoNames, slotNames, slotTested, slotJudged, slotsJudged, planJudgedBy, planJudged}
 use Rattle.meaning.specs.Judge.{judgeIn, judge, planNamesBy, planNames, judgementIn, judgement, choice, handedBack}

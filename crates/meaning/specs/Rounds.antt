@@ -110,7 +110,7 @@ recorded parent slots now = record { held = heldAfter parent (now .held) slots; 
 -- what a planner goes by: the probes, where what they send goes, their conflicts, what each may send of what it holds, who of those that may owns the slot of a colour, the colours
 pub record Way : Type 0 where
   pub probes : ℕ
-  pub parent : Node → Node
+  pub goes : Node → Node
   pub relation : Relation
   pub may : (held : List ℕ) → List ℕ
   pub owners : (s : ℕ) → (may : Node → Bool) → List Bool
@@ -122,7 +122,7 @@ turn way s held = turnOf (way .probes) (way .relation) (holds (way .may held)) (
 
 -- "The two plans": a round, for each colour from 1 to M
 unfoldable pub round : Way → Progress → Progress
-round way start = forEach (way .colours) (λ s now. recorded (way .parent) (turn way (s + 1) (now .held)) now) start
+round way start = forEach (way .colours) (λ s now. recorded (way .goes) (turn way (s + 1) (now .held)) now) start
 
 -- "The two plans": while anything is outside the gateway, a round
 unfoldable pub rounds : Way → ℕ → Progress → Progress
@@ -139,7 +139,7 @@ byProbeIn mode s =
     let colours = probeColours s in
     record {
       probes = probeCount s;
-      parent = goesIn mode (parentOf s);
+      goes = goesIn mode (parentOf s);
       relation = entry table;
       may = mayIn mode (probeCount s) (parentOf s);
       owners = ownersByProbe (byNode colours);
@@ -159,7 +159,7 @@ byLevel s =
     let colours = levelColours s in
     record {
       probes = probeCount s;
-      parent = parentOf s;
+      goes = parentOf s;
       relation = entry table;
       may = mayIn Packets (probeCount s) (parentOf s);
       owners = ownersByLevel (probeCount s) (entry table) (λ v. getD colours (levelOf s v) 0);

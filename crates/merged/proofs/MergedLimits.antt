@@ -1,32 +1,32 @@
 -- The limits hold of the telephone's answer on merged readings: neither room nor count refuses an accepted sheet, so that its answer is whole; every probe sends after
 -- its children, so that no plan has fewer slots than levels; and ours has at most a slot a probe, and at most one a colour for each level.
-use mathlib.Core.Path.{_≡_, refl, sym, ap, _∙_, subst}
-use mathlib.Core.Bool.{Bool, true, false, cond}
+use mathlib.Core.Path.{_≡_, sym, ap, _∙_, subst}
+use mathlib.Core.Bool.{true, false}
 use mathlib.Core.List.{List}
 use mathlib.Core.Logic.{⊎-elim}
 use Prim.Native.Nat.{ℕ, _≤_, _<_}
 use native.Mathlib.Omega.{arith}
 use lib.ListN.{length, getD, take}
 use Rattle.meaning.specs.declared.Mode.the-variants.{Merged}
-use Rattle.meaning.specs.declared.Outcome.{Outcome}
 use Rattle.meaning.specs.declared.Verdict.{Verdict}
 use Rattle.meaning.specs.declared.MergedTold.{MergedTold}
-use Rattle.meaning.specs.Sheet.{decidingSheet, probeCount}
+use Rattle.meaning.specs.Sheet.{decidingSheet}
 use Rattle.meaning.specs.Plan.{planBytes, anyMerged}
 use Rattle.meaning.specs.Colour.{coloursUsed, probeColours, depth}
 use Rattle.meaning.specs.Rounds.{merged, slotsIn}
-use Rattle.meaning.specs.Answer.{accepted, isAccepted, sheetTest, planTestIn, refusedPlan, PlanMade}
+use Rattle.meaning.specs.Answer.{accepted, isAccepted, sheetTest, planTestIn}
 use Rattle.meaning.specs.Judge.{judgeIn}
-use Rattle.meaning.specs.Merged.{MergedGood, mergedMost, mergedAsked}
+use Rattle.meaning.specs.Merged.{mergedMost, mergedAsked}
 use Rattle.laws.proofs.Slots.{true-or-false}
 use Rattle.laws.proofs.Grounds.{few-probes}
-use Rattle.laws.proofs.PlanMade.{makes, sheet-refuses, room-passes}
+use Rattle.laws.proofs.PlanMade.{room-passes}
+use Rattle.laws.proofs.Telling.{told-plan, told-refusal}
 use Rattle.laws.proofs.Own.{OwnPlan, merged-plan}
 use Rattle.laws.proofs.MergedExact.{good-merged, merged-passed-good, merged-good-passed}
 use Rattle.laws.proofs.MergedDepth.{merged-depth}
 use Rattle.limits.proofs.Deciding.{decided}
 use Rattle.limits.proofs.MergedMost.{merged-most}
-use Rattle.merged.proofs.MergedAnswer.{whole, nothing, tells, asked-tells}
+use Rattle.merged.proofs.MergedAnswer.{whole, nothing, asked-tells}
 
 -- a plan that the judge of merged readings passes has at least as many slots as its yard has levels; its first two elements, which say how many, are bytes
 pub passed-depth : (s plan : List ℕ) → getD plan 0 0 < 256 → getD plan 1 0 < 256 → isAccepted (judgeIn Merged s plan .outcome) ≡ true
@@ -53,10 +53,7 @@ module _ (s : List ℕ) where
     pub answered : mergedAsked s
         ≡ record { outcome = accepted; least = depth s; ours = length (slotsIn Merged s (merged s)); most = mergedMost s (coloursUsed (probeColours s)) }
     unfolding merged
-    answered =
-        asked-tells s
-        ∙ ap (λ (m : PlanMade). tells s (m .answer)) (makes Merged merged s anyMerged true (ap isAccepted tests-pass))
-        ∙ ap (λ (o : Outcome). tells s (record { outcome = o; colours = merged s .colours; slots = length slots; bytes = length (planBytes slots) })) tests-pass
+    answered = asked-tells s ∙ told-plan Merged merged s anyMerged (whole s) nothing tests-pass
 
     deep-slots : depth s ≤ length slots
     deep-slots =
@@ -70,16 +67,9 @@ module _ (s : List ℕ) where
 
   -- a refused sheet
   module _ (refused : isAccepted (sheetTest s) ≡ false) where
-    tests-refuse : planTestIn Merged s anyMerged slots ≡ sheetTest s
-    tests-refuse = sheet-refuses Merged merged s anyMerged refused
-
     -- on refusal the sheet's own number and place are told, and three zeros
     pub not-answered : mergedAsked s ≡ record { outcome = sheetTest s; least = 0; ours = 0; most = 0 }
-    not-answered =
-        asked-tells s
-        ∙ ap (λ (m : PlanMade). tells s (m .answer)) (makes Merged merged s anyMerged false (ap isAccepted tests-refuse ∙ refused))
-        ∙ ap (λ (o : Outcome). tells s (refusedPlan o)) tests-refuse
-        ∙ ap (λ (b : Bool). cond b (whole s (refusedPlan (sheetTest s))) (nothing (refusedPlan (sheetTest s)))) refused
+    not-answered = asked-tells s ∙ told-refusal Merged merged s anyMerged (whole s) nothing refused
 
   -- what holds of both answers holds of every sheet
   by-answer : (P : MergedTold → Type 0)

@@ -23,7 +23,7 @@ use Rattle.meaning.specs.Rounds.{Progress, Way, mayIn, goesIn, firstIn, sending
 use Rattle.meaning.specs.Rounds.{byProbeIn, byProbe, merged, byLevel, slotsIn}
 use Rattle.meaning.specs.Answer.{accepted, isAccepted, given, _then_, sheetTest, planTestIn, refusedPlan, PlanMade, planMadeIn}
 use Rattle.meaning.specs.Legal.{goesOf, heldIn}
-use Rattle.laws.proofs.Levels.{level-read, depth-read}
+use Rattle.laws.proofs.Levels.{level-read}
 use Rattle.laws.proofs.Turns.{getD-tab, length-tab}
 use Rattle.laws.proofs.Walk.{probe-yes, not-both}
 use Rattle.laws.proofs.Moving.{weigh}
@@ -36,7 +36,7 @@ use Rattle.laws.proofs.Modes.{weightOf, goes-node, weight-up, sendings-left, se
 use Rattle.plan.specs.ColourTurn.{Ready}
 use Rattle.plan.specs.TurnByTurn.{from, heldBy, sendingsBy, ToFill}
 use Rattle.plan.specs.Answered.{groundTest, prepared, slotsOn, Finished}
-use Rattle.sheet.proofs.Standing.{Standing, parents-read, conflicts-read}
+use Rattle.sheet.proofs.Standing.{Standing, parents-read, deepest-read, conflicts-read}
 use Rattle.sending.proofs.FirstHeld.{first-read}
 use Rattle.chosen.proofs.Owners.{one-by-one, owners-same}
 use Rattle.plan.proofs.Preparing.{sendings-read, stands}
@@ -273,7 +273,7 @@ module _ (s buffer : List ℕ) (tree : Tree) (is : tree ≡ prepared Packets s (
       same-table = its-table Packets s buffer tree is passes table made
 
       its-depth : depths .0 ≡ depth s
-      its-depth = ap (λ (d : Level). d .0) deep ∙ ap₂ (λ (p : ℕ) (l : List ℕ). mostProbes p (λ v. getD l v 0)) (its .probes) (its .levels) ∙ depth-read s ok
+      its-depth = ap (λ (d : Level). d .0) deep ∙ deepest-read s ok tree its
 
       its-colours : colours ≡ levelColours s
       its-colours =

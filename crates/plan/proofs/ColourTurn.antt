@@ -141,8 +141,12 @@ module _ (p : ℕ) (parent : ℕ → ℕ) (held rest : List ℕ) (ready : Ready 
   wrote : rest′ ≡ front rest (slotBytes its)
   wrote = w .1 ∙ ap (front rest) all-in
 
+  -- the rest keeps its length, and the slot ends within it
+  pub rest-long : length rest′ ≡ length rest
+  rest-long = ap length wrote ∙ length-front rest (slotBytes its) room
+
   pub slot-ends : bytes ≤ length rest′
-  slot-ends = omega (arith, counted, ap length wrote ∙ length-front rest (slotBytes its) room, room)
+  slot-ends = omega (arith, counted, rest-long, room)
 
   -- no byte, no slot
   pub turned-none : bytes ≡ 0 → Turned parent its held held rest rest′ 0

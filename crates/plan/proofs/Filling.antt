@@ -7,7 +7,7 @@ use native.Mathlib.Nat.{not-suc-le-zero, le-of-suc-le-suc}
 use native.Mathlib.Omega.{arith}
 use borrow.Rule.Slice.PartMut.{putMid}
 use lib.ListN.{length, drop, set, length-append}
-use Rattle.meaning.specs.declared.Mode.{Mode}
+use Rattle.plan.specs.declared.Way as code
 use Rattle.meaning.specs.Words.{byNode}
 use Rattle.meaning.specs.Yard.{levelBy}
 use Rattle.meaning.specs.Plan.{front, slotBytes}
@@ -21,58 +21,61 @@ use Rattle.plan.specs.TurnByTurn.{wayBy, from, slotsBy, Going, Filled}
 use Rattle.plan.proofs.ColourTurn.{ready-next, turn-sent}
 use Rattle.plan.proofs.TurnByTurn.{put-behind}
 
-module _ (mode : Mode) (p : ℕ) (parents : List ℕ) (table : List (List Bool)) (own : List ℕ) (m : ℕ) where
+module _ (by : code.Way) (table : List (List Bool)) where
   abbrev way : Way
-  way = wayBy mode p parents table own m
+  way = wayBy by table
 
   abbrev energy : List ℕ → ℕ
-  energy held = weigh (levelBy p (way .parent)) held
+  energy held = weigh (levelBy (by .probes) (way .goes)) held
 
   -- a yard to plan, with `all` sendings to make: each slot made has taken one of them at least
   record Spent (all : ℕ) (now : Progress) : Type 0 where
-    ready : Ready p (way .parent) (now .held) (2 * energy (now .held))
+    ready : Ready (by .probes) (way .goes) (now .held) (2 * energy (now .held))
     fewer : length (now .slots) + energy (now .held) ≤ all
 
-  ready-own : (held : List ℕ) (room : ℕ) → Ready p (way .parent) held room → Ready p (way .parent) held (2 * energy held)
+  ready-own : (held : List ℕ) (room : ℕ) → Ready (by .probes) (way .goes) held room → Ready (by .probes) (way .goes) held (2 * energy held)
   ready-own held room r = record { small = r .small; long = r .long; few = r .few; up = r .up; fits = omega arith }
 
-  spent-turn : (all s : ℕ) (now : Progress) → Spent all now → Spent all (recorded (way .parent) (turn way s (now .held)) now)
+  spent-turn : (all s : ℕ) (now : Progress) → Spent all now → Spent all (recorded (way .goes) (turn way s (now .held)) now)
   unfolding turnSlots recorded
   spent-turn all s now spent =
       record {
         ready =
-            ready-own (heldAfter (way .parent) (now .held) made) _
-            (ready-next p (way .parent) (now .held) (2 * energy (now .held)) (spent .ready) (way .may (now .held)) has (way .relation) (byNode own) s);
+            ready-own (heldAfter (way .goes) (now .held) made) _
+            (ready-next (by .probes) (way .goes) (now .held) (2 * energy (now .held)) (spent .ready) may has (way .relation) (byNode (by .own)) s);
         fewer =
             omega (
               arith,
               spent .fewer,
               length-append (now .slots) made,
-              turn-sent p (way .parent) (now .held) (2 * energy (now .held)) (spent .ready) (way .may (now .held)) has (way .relation) (byNode own) s,
+              turn-sent (by .probes) (way .goes) (now .held) (2 * energy (now .held)) (spent .ready) may has (way .relation) (byNode (by .own)) s,
             );
       }
     where
       made : List (List ℕ)
       made = turn way s (now .held)
 
-      has : (v : ℕ) → holds (way .may (now .held)) v ≡ true → holds (now .held) v ≡ true
-      has = may-holds mode p (byNode parents) (now .held)
+      may : List ℕ
+      may = way .may (now .held)
+
+      has : (v : ℕ) → holds may v ≡ true → holds (now .held) v ≡ true
+      has = may-holds (by .mode) (by .probes) (byNode (by .parents)) (now .held)
 
   spent-round : (all : ℕ) (now : Progress) → Spent all now → Spent all (round way now)
   unfolding round
   spent-round all now spent =
-      forEach-keeps (Spent all) m (λ s then. recorded (way .parent) (turn way (s + 1) (then .held)) then) now spent
+      forEach-keeps (Spent all) (by .colours) (λ s then. recorded (way .goes) (turn way (s + 1) (then .held)) then) now spent
       (λ s _ then h. spent-turn all (s + 1) then h)
 
   -- a plan has no more slots than sendings
-  pub slots-most : (held : List ℕ) (room sendings : ℕ) → Ready p (way .parent) held room → length (slotsBy mode p parents table own m sendings held) ≤ energy held
+  pub slots-most : (held : List ℕ) (room sendings : ℕ) → Ready (by .probes) (way .goes) held room → length (slotsBy by table sendings held) ≤ energy held
   unfolding rounds
   slots-most held room sendings ready =
       omega (
         arith,
-        forEach-keeps (Spent (energy held)) sendings (λ _ now. cond (outside p (now .held)) (round way now) now) (from held)
+        forEach-keeps (Spent (energy held)) sendings (λ _ now. cond (outside (by .probes) (now .held)) (round way now) now) (from held)
             (record { ready = ready-own held room ready; fewer = omega arith })
-            (λ _ _ now h. go (outside p (now .held)) now h) .fewer,
+            (λ _ _ now h. go (outside (by .probes) (now .held)) now h) .fewer,
       )
     where
       go : (b : Bool) (now : Progress) → Spent (energy held) now → Spent (energy held) (cond b (round way now) now)

@@ -8,7 +8,7 @@ use Rattle.laws.proofs.Turns.{forEach-same}
 
 module _ (p : ℕ) (parent : ℕ → ℕ) (relation : ℕ → ℕ → Bool) (may : List ℕ → List ℕ) (m : ℕ) where
   abbrev pub wayOf : (ℕ → (ℕ → Bool) → List Bool) → Way
-  wayOf owners = record { probes = p; parent = parent; relation = relation; may = may; owners = owners; colours = m }
+  wayOf owners = record { probes = p; goes = parent; relation = relation; may = may; owners = owners; colours = m }
 
   module _ (a b : ℕ → (ℕ → Bool) → List Bool) (same : (s : ℕ) (who : ℕ → Bool) → a (s + 1) who ≡ b (s + 1) who) where
     round-same : (now : Progress) → round (wayOf a) now ≡ round (wayOf b) now

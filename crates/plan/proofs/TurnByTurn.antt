@@ -8,7 +8,7 @@ use lib.Dec.{eqb}
 use lib.ListN.{length, take, drop, length-append, length-drop, drop-of-length-le}
 use borrow.Rule.Slice.PartMut.{putMid}
 use lib.Seq.{take-all, take-at, drop-at, drop-drop}
-use Rattle.meaning.specs.declared.Mode.{Mode}
+use Rattle.plan.specs.declared.Way as code
 use Rattle.meaning.specs.Words.{forEach, byNode}
 use Rattle.meaning.specs.Plan.{front, slotBytes}
 use Rattle.meaning.specs.Rounds.{Progress, Way, holds, heldAfter, recorded, turn, round, rounds, outside}
@@ -18,7 +18,7 @@ use Rattle.laws.proofs.Exact.{slot-bytes-append}
 use Rattle.laws.proofs.Modes.{may-holds}
 use Rattle.chosen.specs.TurnSlot.{turnSlots, turnBy}
 use Rattle.plan.specs.ColourTurn.{Ready, Turned}
-use Rattle.plan.specs.TurnByTurn.{wayBy, from, Going}
+use Rattle.plan.specs.TurnByTurn.{goesBy, wayBy, from, roundBy, Going}
 use Rattle.plan.proofs.ColourTurn.{ready-next, turn-bytes, turn-count, turn-fewer}
 
 -- what is written into the part behind `at` stands behind what was written before
@@ -43,35 +43,35 @@ put-behind l part at h =
     let none : drop (length l - at) (drop at l) ≡ [] = drop-of-length-le (drop at l) {i = length l - at} (rw (length-drop at l) (omega arith)) in
     ap (λ (r : List ℕ). take at l ++ (part ++ r)) none ∙ ap (λ (r : List ℕ). take at l ++ r) (append-nil part)
 
-module _ (mode : Mode) (p : ℕ) (parents : List ℕ) (table : List (List Bool)) (own : List ℕ) (m : ℕ) where
+module _ (by : code.Way) (table : List (List Bool)) where
   abbrev way : Way
-  way = wayBy mode p parents table own m
+  way = wayBy by table
 
   abbrev parent : ℕ → ℕ
-  parent = way .parent
+  parent = goesBy by
 
   -- who may send holds something
   has : (held : List ℕ) (v : ℕ) → holds (way .may held) v ≡ true → holds held v ≡ true
-  has = may-holds mode p (byNode parents)
+  has = may-holds (by .mode) (by .probes) (byNode (by .parents))
 
   -- the first k turns of a round
   unfoldable pub turns : ℕ → List ℕ → Progress
   turns k held = forEach k (λ s now. recorded parent (turn way (s + 1) (now .held)) now) (from held)
 
-  pub turns-all : (held : List ℕ) → turns m held ≡ round way (from held)
+  pub turns-all : (held : List ℕ) → turns (by .colours) held ≡ roundBy by table held
   unfolding turns round
   turns-all held = refl
 
   -- what the turn that follows them makes
   abbrev nextTurn : ℕ → List ℕ → List (List ℕ)
-  nextTurn k held = turnBy p table own (k + 1) (way .may (turns k held .held))
+  nextTurn k held = turnBy (by .probes) table (by .own) (k + 1) (way .may (turns k held .held))
 
   turns-next : (k : ℕ) (held : List ℕ) → turns (k + 1) held
       ≡ record { held = heldAfter parent (turns k held .held) (nextTurn k held); slots = turns k held .slots ++ nextTurn k held }
   unfolding turns turnSlots recorded
   turns-next k held = forEach-one k (λ s now. recorded parent (turn way (s + 1) (now .held)) now) (from held)
 
-  pub going-start : (held rest : List ℕ) → Ready p parent held (length rest) → Going p parent (turns 0 held) held rest rest 0 0
+  pub going-start : (held rest : List ℕ) → Ready (by .probes) parent held (length rest) → Going (by .probes) parent (turns 0 held) held rest rest 0 0
   unfolding turns forEach slotBytes
   going-start held rest ready =
       record {
@@ -81,17 +81,17 @@ module _ (mode : Mode) (p : ℕ) (parents : List ℕ) (table : List (List Bool))
         wrote = refl;
         within = omega arith;
         fewer = omega arith;
-        ready = subst (λ (r : ℕ). Ready p parent held r) (sym (native.Mathlib.Nat.sub-zero (length rest))) ready;
+        ready = subst (λ (r : ℕ). Ready (by .probes) parent held r) (sym (native.Mathlib.Nat.sub-zero (length rest))) ready;
       }
 
   -- one more turn, whose slot is written into the part from `at` on
-  pub going-next : (k : ℕ) (held₀ held rest₀ rest : List ℕ) (at slots : ℕ) → Going p parent (turns k held₀) held rest₀ rest at slots
+  pub going-next : (k : ℕ) (held₀ held rest₀ rest : List ℕ) (at slots : ℕ) → Going (by .probes) parent (turns k held₀) held rest₀ rest at slots
       → (held′ part : List ℕ) (bytes : ℕ)
-      → Turned parent (turnBy p table own (k + 1) (way .may held)) held held′ (take (length rest - at) (drop at rest)) part bytes
+      → Turned parent (turnBy (by .probes) table (by .own) (k + 1) (way .may held)) held held′ (take (length rest - at) (drop at rest)) part bytes
       → (more : ℕ) → more ≡ cond (eqb bytes 0) 0 1
-      → Going p parent (turns (k + 1) held₀) held′ rest₀ (putMid at (length rest - at) rest part) (at + bytes) (slots + more)
+      → Going (by .probes) parent (turns (k + 1) held₀) held′ rest₀ (putMid at (length rest - at) rest part) (at + bytes) (slots + more)
   going-next k held₀ held rest₀ rest at slots now held′ part bytes lent more count =
-      subst₂ (λ (then : Progress) (r : List ℕ). Going p parent then held′ rest₀ r (at + bytes) (slots + more)) (sym (turns-next k held₀))
+      subst₂ (λ (then : Progress) (r : List ℕ). Going (by .probes) parent then held′ rest₀ r (at + bytes) (slots + more)) (sym (turns-next k held₀))
       (sym (put-behind rest part at (omega (arith, going-long now, now .within))))
       (record {
         holding = turned .moves ∙ ap (λ (h : List ℕ). heldAfter parent h (makes h)) (now .holding);
@@ -112,7 +112,7 @@ module _ (mode : Mode) (p : ℕ) (parents : List ℕ) (table : List (List Bool))
               arith,
               now .within,
               turned .counted,
-              turn-bytes p parent held (length rest₀ - at) (now .ready) (way .may held) (has held) (way .relation) (byNode own) (k + 1),
+              turn-bytes (by .probes) parent held (length rest₀ - at) (now .ready) (way .may held) (has held) (way .relation) (byNode (by .own)) (k + 1),
             );
         fewer =
             omega (
@@ -120,11 +120,11 @@ module _ (mode : Mode) (p : ℕ) (parents : List ℕ) (table : List (List Bool))
               now .fewer,
               turned .counted,
               one-more,
-              turn-fewer p parent held (length rest₀ - at) (now .ready) (way .may held) (has held) (way .relation) (byNode own) (k + 1),
+              turn-fewer (by .probes) parent held (length rest₀ - at) (now .ready) (way .may held) (has held) (way .relation) (byNode (by .own)) (k + 1),
             );
         ready =
-            subst₂ (λ (h : List ℕ) (r : ℕ). Ready p parent h r) (sym (turned .moves)) room
-            (ready-next p parent held (length rest₀ - at) (now .ready) (way .may held) (has held) (way .relation) (byNode own) (k + 1));
+            subst₂ (λ (h : List ℕ) (r : ℕ). Ready (by .probes) parent h r) (sym (turned .moves)) room
+            (ready-next (by .probes) parent held (length rest₀ - at) (now .ready) (way .may held) (has held) (way .relation) (byNode (by .own)) (k + 1));
       })
     where
       before : List ℕ
@@ -134,7 +134,7 @@ module _ (mode : Mode) (p : ℕ) (parents : List ℕ) (table : List (List Bool))
       done = turns k held₀ .slots
 
       makes : List ℕ → List (List ℕ)
-      makes h = turnBy p table own (k + 1) (way .may h)
+      makes h = turnBy (by .probes) table (by .own) (k + 1) (way .may h)
 
       turned : Turned parent (makes held) held held′ (drop at rest) part bytes
       turned = subst (λ (from′ : List ℕ). Turned parent (makes held) held held′ from′ part bytes) (part-from rest at) lent
@@ -142,7 +142,7 @@ module _ (mode : Mode) (p : ℕ) (parents : List ℕ) (table : List (List Bool))
       one-more : more ≡ length (makes held)
       one-more =
           count ∙ ap (λ (b : ℕ). cond (eqb b 0) 0 1) (turned .counted)
-          ∙ sym (turn-count p parent held (length rest₀ - at) (now .ready) (way .may held) (has held) (way .relation) (byNode own) (k + 1))
+          ∙ sym (turn-count (by .probes) parent held (length rest₀ - at) (now .ready) (way .may held) (has held) (way .relation) (byNode (by .own)) (k + 1))
 
       room : (length rest₀ - at) - length (slotBytes (makes held)) ≡ length rest₀ - (at + bytes)
       room = omega (arith, turned .counted)
@@ -150,7 +150,7 @@ module _ (mode : Mode) (p : ℕ) (parents : List ℕ) (table : List (List Bool))
 -- a round only adds to the slots that are there
 module _ (way : Way) where
   next : ℕ → Progress → Progress
-  next s now = recorded (way .parent) (turn way (s + 1) (now .held)) now
+  next s now = recorded (way .goes) (turn way (s + 1) (now .held)) now
 
   -- the same progress with these slots in front
   abbrev behind : List (List ℕ) → Progress → Progress
@@ -159,7 +159,7 @@ module _ (way : Way) where
   turn-behind : (s : ℕ) (slots : List (List ℕ)) (now : Progress) → next s (behind slots now) ≡ behind slots (next s now)
   unfolding next recorded
   turn-behind s slots now =
-      λ i. record { held = heldAfter (way .parent) (now .held) made; slots = append-assoc slots (now .slots) made i }
+      λ i. record { held = heldAfter (way .goes) (now .held) made; slots = append-assoc slots (now .slots) made i }
     where
       made : List (List ℕ)
       made = turn way (s + 1) (now .held)
@@ -200,39 +200,41 @@ going-behind p parent now then held rest₀ rest at slots first held′ part byt
     left = length-drop at rest ∙ ap (λ (n : ℕ). n - at) (going-long first)
 
 -- rounds, while anything is outside the gateway
-module _ (mode : Mode) (p : ℕ) (parents : List ℕ) (table : List (List Bool)) (own : List ℕ) (m : ℕ) where
+module _ (by : code.Way) (table : List (List Bool)) where
   abbrev road : Way
-  road = wayBy mode p parents table own m
+  road = wayBy by table
 
   step : ℕ → Progress → Progress
-  step _ now = cond (outside p (now .held)) (round road now) now
+  step _ now = cond (outside (by .probes) (now .held)) (round road now) now
 
-  pub rounds-start : (held rest : List ℕ) → Ready p (road .parent) held (length rest) → Going p (road .parent) (rounds road 0 (from held)) held rest rest 0 0
+  pub rounds-start : (held rest : List ℕ) → Ready (by .probes) (road .goes) held (length rest)
+      → Going (by .probes) (road .goes) (rounds road 0 (from held)) held rest rest 0 0
   unfolding rounds forEach turns
-  rounds-start held rest ready = going-start mode p parents table own m held rest ready
+  rounds-start held rest ready = going-start by table held rest ready
 
   -- with nothing outside, the rounds that are left change nothing
-  pub rounds-stop : (r n : ℕ) (held : List ℕ) → r ≤ n → outside p (rounds road r (from held) .held) ≡ false
+  pub rounds-stop : (r n : ℕ) (held : List ℕ) → r ≤ n → outside (by .probes) (rounds road r (from held) .held) ≡ false
       → rounds road n (from held) ≡ rounds road r (from held)
   unfolding rounds step
   rounds-stop r n held h e =
       forEach-stays r n step (from held) (forEach r step (from held)) h refl
       (λ k _ _. ap (λ (b : Bool). cond b (round road (forEach r step (from held))) (forEach r step (from held))) e)
 
-  rounds-next : (r : ℕ) (held : List ℕ) → outside p (rounds road r (from held) .held) ≡ true
+  rounds-next : (r : ℕ) (held : List ℕ) → outside (by .probes) (rounds road r (from held) .held) ≡ true
       → rounds road (r + 1) (from held) ≡ round road (rounds road r (from held))
   unfolding rounds step
   rounds-next r held e =
       forEach-one r step (from held) ∙ ap (λ (b : Bool). cond b (round road (forEach r step (from held))) (forEach r step (from held))) e
 
-  pub going-round : (r : ℕ) (held₀ held rest₀ rest : List ℕ) (at slots : ℕ) → Going p (road .parent) (rounds road r (from held₀)) held rest₀ rest at slots
-      → outside p held ≡ true → (held′ part : List ℕ) (bytes more : ℕ)
-      → Going p (road .parent) (round road (from held)) held′ (take (length rest - at) (drop at rest)) part bytes more
-      → Going p (road .parent) (rounds road (r + 1) (from held₀)) held′ rest₀ (putMid at (length rest - at) rest part) (at + bytes) (slots + more)
+  pub going-round : (r : ℕ) (held₀ held rest₀ rest : List ℕ) (at slots : ℕ)
+      → Going (by .probes) (road .goes) (rounds road r (from held₀)) held rest₀ rest at slots
+      → outside (by .probes) held ≡ true → (held′ part : List ℕ) (bytes more : ℕ)
+      → Going (by .probes) (road .goes) (round road (from held)) held′ (take (length rest - at) (drop at rest)) part bytes more
+      → Going (by .probes) (road .goes) (rounds road (r + 1) (from held₀)) held′ rest₀ (putMid at (length rest - at) rest part) (at + bytes) (slots + more)
   going-round r held₀ held rest₀ rest at slots now e held′ part bytes more lent =
-      subst₂ (λ (then : Progress) (l : List ℕ). Going p (road .parent) then held′ rest₀ l (at + bytes) (slots + more))
-      (sym (rounds-next r held₀ (subst (λ (h : List ℕ). outside p h ≡ true) (now .holding) e) ∙ round-behind road (rounds road r (from held₀))))
+      subst₂ (λ (then : Progress) (l : List ℕ). Going (by .probes) (road .goes) then held′ rest₀ l (at + bytes) (slots + more))
+      (sym (rounds-next r held₀ (subst (λ (h : List ℕ). outside (by .probes) h ≡ true) (now .holding) e) ∙ round-behind road (rounds road r (from held₀))))
       (sym (put-behind rest part at (omega (arith, going-long now, now .within))))
-      (going-behind p (road .parent) (rounds road r (from held₀)) (round road (from (rounds road r (from held₀) .held))) held rest₀ rest at slots now
+      (going-behind (by .probes) (road .goes) (rounds road r (from held₀)) (round road (from (rounds road r (from held₀) .held))) held rest₀ rest at slots now
       held′ part bytes more
-      (subst₂ (λ (h l : List ℕ). Going p (road .parent) (round road (from h)) held′ l part bytes more) (now .holding) (part-from rest at) lent))
+      (subst₂ (λ (h l : List ℕ). Going (by .probes) (road .goes) (round road (from h)) held′ l part bytes more) (now .holding) (part-from rest at) lent))

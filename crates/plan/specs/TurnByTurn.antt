@@ -6,6 +6,7 @@ use Prim.Native.Nat.{ℕ, _-_, _≤_}
 use lib.ListN.{length}
 use Rattle.meaning.specs.declared.Mode.{Mode}
 use Rattle.meaning.specs.declared.Mode.the-variants.{Packets, Merged}
+use Rattle.plan.specs.declared.Way as code
 use Rattle.meaning.specs.Words.{byNode}
 use Rattle.meaning.specs.Yard.{levelBy}
 use Rattle.meaning.specs.Plan.{front, slotBytes, planBytes}
@@ -16,16 +17,24 @@ use Rattle.laws.proofs.Moving.{weigh}
 use Rattle.sending.specs.First.{firstHeld}
 use Rattle.plan.specs.ColourTurn.{Ready}
 
--- the way that the code goes by: `own` is each probe's colour, or that of its level
-abbrev pub wayBy : Mode → ℕ → List ℕ → List (List Bool) → List ℕ → ℕ → Way
-wayBy mode p parents table own m =
+-- the code's way, field by field
+abbrev pub told : Mode → (p : ℕ) → (parents own : List ℕ) → (m : ℕ) → code.Way
+told mode p parents own m = record { mode = mode; probes = p; parents = parents; own = own; colours = m }
+
+-- where what is sent goes on it
+abbrev pub goesBy : code.Way → ℕ → ℕ
+goesBy by = goesIn (by .mode) (byNode (by .parents))
+
+-- with the table, what it means: `own` is each probe's colour, or that of its level
+abbrev pub wayBy : code.Way → (table : List (List Bool)) → Way
+wayBy by table =
     record {
-      probes = p;
-      parent = goesIn mode (byNode parents);
+      probes = by .probes;
+      goes = goesBy by;
       relation = entry table;
-      may = mayIn mode p (byNode parents);
-      owners = ownersByLevel p (entry table) (byNode own);
-      colours = m;
+      may = mayIn (by .mode) (by .probes) (byNode (by .parents));
+      owners = ownersByLevel (by .probes) (entry table) (byNode (by .own));
+      colours = by .colours;
     }
 
 -- what is held and no slots yet
@@ -33,8 +42,8 @@ abbrev pub from : List ℕ → Progress
 from held = record { held = held; slots = [] }
 
 -- a round that begins with what is held
-abbrev pub roundOf : Mode → ℕ → List ℕ → List (List Bool) → List ℕ → ℕ → List ℕ → Progress
-roundOf mode p parents table own m held = round (wayBy mode p parents table own m) (from held)
+abbrev pub roundBy : code.Way → (table : List (List Bool)) → (held : List ℕ) → Progress
+roundBy by table held = round (wayBy by table) (from held)
 
 -- the progress as the code has it: what is held, the slots at the start of the rest, their bytes and number; and what the next turn may count on
 pub record Going (p : ℕ) (parent : ℕ → ℕ) (now : Progress) (held rest rest′ : List ℕ) (bytes slots : ℕ) : Type 0 where
@@ -55,8 +64,8 @@ sendingsBy Packets p hops = hops
 sendingsBy Merged p hops = p
 
 -- the slots of the plan that begins with what is held
-abbrev pub slotsBy : Mode → ℕ → List ℕ → List (List Bool) → List ℕ → ℕ → ℕ → List ℕ → List (List ℕ)
-slotsBy mode p parents table own m sendings held = rounds (wayBy mode p parents table own m) sendings (from held) .slots
+abbrev pub slotsBy : code.Way → (table : List (List Bool)) → (sendings : ℕ) → (held : List ℕ) → List (List ℕ)
+slotsBy by table sendings held = rounds (wayBy by table) sendings (from held) .slots
 
 -- what the filling of a buffer may count on: what its first turn may, behind two bytes, and sendings that two bytes can say
 pub record ToFill (mode : Mode) (p : ℕ) (parents packets : List ℕ) (room : ℕ) : Type 0 where

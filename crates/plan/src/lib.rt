@@ -1,16 +1,15 @@
 // The planners of packets, by probe and by level, and of merged readings: a sheet and a lent buffer in, the plan or a numbered refusal out.
 ghost use mathlib.Core.Path.{_≡_};
 ghost use mathlib.Core.Bool.{cond};
-ghost use Prim.Native.Nat.{_≤_};
 ghost use lib.Dec.{eqb, ltb};
 ghost use lib.ListN.{length, getD};
 ghost use Rattle.meaning.specs.Words.{tab, places, byNode};
 ghost use Rattle.meaning.specs.Plan.{roomFor, front};
 ghost use Rattle.meaning.specs.Answer.{given, _then_, planMadeIn, planMade, mergedMade};
 ghost use Rattle.meaning.specs.Rounds.{mayIn, goesIn, rounds, byProbeIn, byProbe, byLevel};
-ghost use Rattle.chosen.specs.TurnSlot.{turnBy, turnLength, turnIn};
+ghost use Rattle.chosen.specs.TurnSlot.{turnBy};
 ghost use Rattle.plan.specs.ColourTurn.{Ready, Turned};
-ghost use Rattle.plan.specs.TurnByTurn.{wayBy, from, roundOf, Going, heldBy, sendingsBy, slotsBy, ToFill, Filled};
+ghost use Rattle.plan.specs.TurnByTurn.{told, goesBy, wayBy, from, roundBy, Going, heldBy, sendingsBy, slotsBy, ToFill, Filled};
 ghost use Rattle.plan.specs.Answered.{prepared, slotsOn, Finished};
 use meaning::Colour;
 use meaning::Mode;
@@ -24,39 +23,22 @@ struct Made {
     slots: usize,
 }
 
-// Writes the slot of colour s at the start of the rest: of those that hold a packet, or of those that are ready.
-fn write_turn(
+// What a planner goes by, beside the conflict table: what a reading brings in, the probes, their parents and colours, and how many colours there are.
+struct Way {
     mode: Mode,
-    p: u8,
-    parents: &[u8; 65],
-    table: &[[bool; 65]; 65],
-    own: &[u8; 65],
-    s: Colour,
-    held: &[u16; 65],
-    rest: &mut [u8],
-) -> usize
-    requires { ⌜ p ≤ 63 ⌝ }
-    ensures answer { λ r. ⌜ r ≡ turnLength (now (rest .entry))
-        (turnBy p (now (table .entry)) (now (own .entry)) (s .0) (mayIn mode p (byNode (now (parents .entry))) (now (held .entry)))) ⌝ }
-    ensures rest { λ _. ⌜ now (rest .exit) ≡ turnIn (now (rest .entry))
-        (turnBy p (now (table .entry)) (now (own .entry)) (s .0) (mayIn mode p (byNode (now (parents .entry))) (now (held .entry)))) ⌝ }
-{
-    match mode {
-        Mode::Packets => chosen::write_slot(rest, p, table, own, s, held),
-        Mode::Merged => {
-            let ready = sending::ready(p, parents, held);
-            chosen::write_slot(rest, p, table, own, s, &ready)
-        }
-    }
+    probes: u8,
+    parents: [u8; 65],
+    own: [u8; 65],
+    colours: u8,
 }
 
-// The turn of colour s: writes its slot at the start of the rest and sends it; says how many bytes it took, 0 where there is no slot.
-fn turn(
+// The turn of colour s: writes the slot of those that may send at the start of the rest and sends it; says how many bytes it took, 0 where there is no slot.
+fn turn<'a>(
     mode: Mode,
     p: u8,
-    parents: &[u8; 65],
+    parents: &'a [u8; 65],
     table: &[[bool; 65]; 65],
-    own: &[u8; 65],
+    own: &'a [u8; 65],
     s: Colour,
     held: &mut [u16; 65],
     rest: &mut [u8],
@@ -66,7 +48,13 @@ fn turn(
         (turnBy p (now (table .entry)) (now (own .entry)) (s .0) (mayIn mode p (byNode (now (parents .entry))) (now (held .entry))))
         (now (held .entry)) (now (held .exit)) (now (rest .entry)) (now (rest .exit)) r ⌝ }
 {
-    let bytes = write_turn(mode, p, parents, table, own, s, held, rest);
+    let bytes = match mode {
+        Mode::Packets => chosen::write_slot(rest, p, table, own, s, held),
+        Mode::Merged => {
+            let ready = sending::ready(p, parents, held);
+            chosen::write_slot(rest, p, table, own, s, &ready)
+        }
+    };
     if bytes == 0 {
         return 0;
     }
@@ -85,19 +73,19 @@ fn slots_in(bytes: usize) -> usize
 }
 
 // A round: the turn of each colour from 1 to m, each slot into the rest that begins where the last ended.
-fn round(
+fn round<'a>(
     mode: Mode,
     p: u8,
-    parents: &[u8; 65],
+    parents: &'a [u8; 65],
     table: &[[bool; 65]; 65],
-    own: &[u8; 65],
+    own: &'a [u8; 65],
     m: u8,
     held: &mut [u16; 65],
     rest: &mut [u8],
 ) -> Made
     requires { ⌜ Ready p (goesIn mode (byNode (now parents))) (now held) (length (now rest)) ⌝ }
     ensures { λ r. ⌜ Going p (goesIn mode (byNode (now (parents .entry))))
-        (roundOf mode p (now (parents .entry)) (now (table .entry)) (now (own .entry)) m (now (held .entry)))
+        (roundBy (told mode p (now (parents .entry)) (now (own .entry)) m) (now (table .entry)) (now (held .entry)))
         (now (held .exit)) (now (rest .entry)) (now (rest .exit)) (r .bytes) (r .slots) ⌝ }
 {
     let mut at: usize = 0;
@@ -121,23 +109,21 @@ fn round(
     Made { bytes: at, slots }
 }
 
-// Rounds while anything is outside the gateway, as many as sendings at most.
+// Rounds while anything is outside the gateway, as many as sendings at most. The way is lent to them field by field: a copy each round would cost time.
 fn run(
-    mode: Mode,
-    p: u8,
-    parents: &[u8; 65],
+    way: Way,
     table: &[[bool; 65]; 65],
-    own: &[u8; 65],
-    m: u8,
     sendings: u32,
     held: &mut [u16; 65],
     rest: &mut [u8],
 ) -> Made
-    requires { ⌜ Ready p (goesIn mode (byNode (now parents))) (now held) (length (now rest)) ⌝ }
-    ensures { λ r. ⌜ Going p (goesIn mode (byNode (now (parents .entry))))
-        (rounds (wayBy mode p (now (parents .entry)) (now (table .entry)) (now (own .entry)) m) sendings (from (now (held .entry))))
+    requires { ⌜ Ready (way .probes) (goesBy way) (now held) (length (now rest)) ⌝ }
+    ensures { λ r. ⌜ Going (way .probes) (goesBy way) (rounds (wayBy way (now (table .entry))) sendings (from (now (held .entry))))
         (now (held .exit)) (now (rest .entry)) (now (rest .exit)) (r .bytes) (r .slots) ⌝ }
 {
+    let mode = way.mode;
+    let p = way.probes;
+    let m = way.colours;
     let mut at: usize = 0;
     let mut slots: usize = 0;
     let mut r: u32 = 0;
@@ -145,7 +131,16 @@ fn run(
         if !slot::any_outside(p, held) {
             return Made { bytes: at, slots };
         }
-        let more = round(mode, p, parents, table, own, m, held, &mut rest[at..]);
+        let more = round(
+            mode,
+            p,
+            &way.parents,
+            table,
+            &way.own,
+            m,
+            held,
+            &mut rest[at..],
+        );
         at += more.bytes;
         slots += more.slots;
         r += 1;
@@ -164,32 +159,15 @@ fn sendings_in(mode: Mode, p: u8, hops: u32) -> u32
 }
 
 // Writes the plan: its slots behind two bytes, and then their number into those.
-fn fill(
-    mode: Mode,
-    p: u8,
-    parents: [u8; 65],
-    packets: [u8; 65],
-    table: [[bool; 65]; 65],
-    own: [u8; 65],
-    m: u8,
-    sendings: u32,
-    buf: &mut [u8],
-) -> Made
-    requires { ⌜ ToFill mode p parents packets (length (now buf)) ⌝ }
-    ensures { λ r. ⌜ Filled (slotsBy mode p parents table own m sendings (heldBy mode p packets)) (now (buf .entry)) (now (buf .exit)) (r .bytes) (r .slots) ⌝ }
+fn fill(way: Way, packets: [u8; 65], table: [[bool; 65]; 65], sendings: u32, buf: &mut [u8]) -> Made
+    requires { ⌜ ToFill (way .mode) (way .probes) (way .parents) packets (length (now buf)) ⌝ }
+    ensures { λ r. ⌜ Filled (slotsBy way table sendings (heldBy (way .mode) (way .probes) packets))
+        (now (buf .entry)) (now (buf .exit)) (r .bytes) (r .slots) ⌝ }
 {
+    let mode = way.mode;
+    let p = way.probes;
     let mut held = sending::first_held(mode, p, packets);
-    let made = run(
-        mode,
-        p,
-        &parents,
-        &table,
-        &own,
-        m,
-        sendings,
-        &mut held,
-        &mut buf[2..],
-    );
+    let made = run(way, &table, sendings, &mut held, &mut buf[2..]);
     let bytes = made.bytes;
     let slots = made.slots;
     buf[0] = (slots / 256 % 256) as u8;
@@ -241,7 +219,14 @@ fn finish(
     let parents = tree.parents;
     let packets = tree.packets;
     let sendings = sendings_in(mode, p, tree.hops);
-    let made = fill(mode, p, parents, packets, table, own, m, sendings, buf);
+    let way = Way {
+        mode,
+        probes: p,
+        parents,
+        own,
+        colours: m,
+    };
+    let made = fill(way, packets, table, sendings, buf);
     let slots = made.slots;
     if 65535 < slots {
         return meaning::refused_plan(Outcome {
@@ -251,7 +236,7 @@ fn finish(
     }
     Planned {
         outcome: meaning::ACCEPTED,
-        colours: m,
+        colours: way.colours,
         slots: slots as u16,
         bytes: made.bytes,
     }

@@ -1,11 +1,9 @@
 -- What is promised of merged readings: the planner's answer by the laws of any way, the judge by its exactness, and the limits by those of our plan and of good plans.
-use mathlib.Core.Path.{_≡_, ap, _∙_}
+use mathlib.Core.Path.{_≡_, _∙_}
 use mathlib.Core.List.{List}
 use Prim.Native.Nat.{ℕ, _*_, _≤_}
-use native.Mathlib.Omega.{arith}
-use lib.ListN.{length, take}
+use lib.ListN.{take}
 use Rattle.meaning.specs.declared.Mode.the-variants.{Merged}
-use Rattle.meaning.specs.declared.Planned.{Planned}
 use Rattle.meaning.specs.Words.{Bytes}
 use Rattle.meaning.specs.Sheet.{decidingSheet, probeCount}
 use Rattle.meaning.specs.Plan.{decidingMerged, planBytes, roomFor, front}

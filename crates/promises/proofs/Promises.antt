@@ -1,5 +1,6 @@
 -- The page of promises: what planners, judges, chooser, lister, telephone, other arrangements, the maker of wake books and the writer and reader of graphs answer for every
--- input, by their contracts, in the words of `specs/Answers.antt` and, of merged readings, books and graphs, `specs/MergedReadings.antt`, `specs/WakeBooks.antt` and `specs/Graphs.antt`.
+-- input, by their contracts, in the words of `specs/Answers.antt` and, of merged readings, books and graphs, `specs/MergedReadings.antt`,
+-- `specs/WakeBooks.antt` and `specs/Graphs.antt`.
 use mathlib.Core.Path.{_≡_}
 use mathlib.Core.Bool.{true, false, cond}
 use mathlib.Core.List.{List, []}
@@ -186,7 +187,8 @@ no-probes s ok none = nothing-to-read s none ok
 pub limits-attained : T attains
 limits-attained = attained
 
--- Demand 3, on the telephone: every accepted sheet is answered for: the fewest slots of any plan, ours by probe, the smaller of the two limits on ours, and how many times anybody's
+-- Demand 3, on the telephone: every accepted sheet is answered for: the fewest slots of any plan, ours by probe, the smaller of the two limits on ours,
+-- and how many times anybody's
 pub told : (s : Bytes) → Accepted s
     → asked s
     ≡ record {

@@ -1,7 +1,7 @@
 -- Bytes behind bytes, and the parts into which a mark cuts them: by recursion on the bytes in front.
 use mathlib.Core.Path.{_≡_, refl, sym, ap, _∙_}
 use mathlib.Core.Bool.{Bool, true, false, cond}
-use mathlib.Core.List.{List, [], _∷_, _++_}
+use mathlib.Core.List.{[], _∷_, _++_}
 use Prim.Native.Nat.{ℕ, zero, suc, _+_, _<_}
 use native.Mathlib.Nat.{zero-add, suc-add, add-suc, not-suc-le-zero, le-of-suc-le-suc}
 use lib.Dec.{eqb}

@@ -1,9 +1,9 @@
 -- What the writer makes in its three cases, and that the text it wrote reads back.
-use mathlib.Core.Path.{_≡_, refl, sym, ap, _∙_}
-use mathlib.Core.Bool.{Bool, true, false, cond, not}
+use mathlib.Core.Path.{_≡_, refl, ap, _∙_}
+use mathlib.Core.Bool.{Bool, true, false, cond}
 use mathlib.Core.List.{[], _++_}
 use Prim.Native.Nat.{ℕ, _≤_, _<_}
-use borrow.Author.Tests.{lt-ltb, le-ltb, eqb-false}
+use borrow.Author.Tests.{lt-ltb, le-ltb}
 use lib.Dec.{eqb, ltb}
 use lib.ListN.{length, take, drop}
 use lib.Seq.{take-at}
@@ -14,9 +14,8 @@ use Rattle.meaning.specs.Plan.{front}
 use Rattle.meaning.specs.Conflict.{conflictTable}
 use Rattle.meaning.specs.Answer.{accepted, isAccepted, given, _then_, sheetTest}
 use Rattle.laws.proofs.Accepted.{then-goes, then-stays}
-use Rattle.graph.specs.declared.Drawn.{Drawn}
 use Rattle.graph.specs.Table.{noEdges}
-use Rattle.graph.specs.Reading.{SoFar, GraphRead, refusedGraph, answered, endTest, ended, lastRead, linesRead, graphRead}
+use Rattle.graph.specs.Reading.{SoFar, GraphRead, refusedGraph, answered, endTest, ended, graphRead}
 use Rattle.graph.specs.Drawing.{GraphMade, graphText, graphMade}
 use Rattle.readback.proofs.OfSheet.{sheet-reads-back}
 

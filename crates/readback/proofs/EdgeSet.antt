@@ -15,7 +15,8 @@ use Rattle.graph.specs.declared.Reading.{Reading}
 use Rattle.graph.specs.Part.{newline, marks, part}
 use Rattle.graph.specs.Lines.{lineOf}
 use Rattle.graph.specs.Table.{Table, noEdges, withEdge}
-use Rattle.graph.specs.Reading.{SoFar, unread, lineTest, taken, faulty, tableAfter, afterLine, lineRead, linesRead, lastRead, endTest, GraphRead, refusedGraph, answered, ended, graphRead}
+use Rattle.graph.specs.Reading.{SoFar, unread, lineTest, taken, faulty, tableAfter, afterLine, lineRead, linesRead, lastRead, endTest, GraphRead}
+use Rattle.graph.specs.Reading.{refusedGraph, answered, ended, graphRead}
 use Rattle.readback.specs.Named.{names, named}
 
 or-assoc : (a b c : Bool) → ((a || b) || c) ≡ (a || (b || c))

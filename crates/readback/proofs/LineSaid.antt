@@ -1,17 +1,15 @@
 -- A line that is written is the line that is read: its words are found one by one, and each number says itself.
 use mathlib.Core.Path.{_≡_, refl, sym, ap, ap₂, _∙_}
-use mathlib.Core.Bool.{Bool, true, false, cond, _&&_}
-use mathlib.Core.List.{List, [], _∷_, _++_, append-nil}
-use Prim.Native.Nat.{ℕ, zero, suc, _+_, _≤_}
+use mathlib.Core.Bool.{true, false, _&&_}
+use mathlib.Core.List.{[], _∷_, _++_, append-nil}
+use Prim.Native.Nat.{ℕ, suc, _+_, _≤_}
 use native.Mathlib.Omega.{arith}
-use lib.Dec.{eqb}
 use Rattle.meaning.specs.Words.{Bytes}
 use Rattle.meaning.specs.Lister.{text, decimal}
 use Rattle.digits.specs.Digits.{numberSaid}
-use Rattle.graph.specs.declared.Line.{Line}
-use Rattle.graph.specs.declared.Line.the-variants.{Comment, Problem, Edge, Other}
+use Rattle.graph.specs.declared.Line.the-variants.{Problem, Edge}
 use Rattle.graph.specs.Part.{newline, space, marks, part}
-use Rattle.graph.specs.Lines.{same, isNumber, numberAt, isComment, isProblem, isEdge, lineOf}
+use Rattle.graph.specs.Lines.{same, isNumber, numberAt, isProblem, isEdge, lineOf}
 use Rattle.graph.specs.Drawing.{problemLine, edgeLine}
 use Rattle.graph.proofs.Cut.{part-whole}
 use Rattle.readback.proofs.Appended.{marks-append, part-goes-on, part-behind}

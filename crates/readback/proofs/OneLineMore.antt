@@ -1,8 +1,7 @@
 -- A text that grows by a line: what was read of it, and one line more.
 use mathlib.Core.Path.{_≡_, refl, sym, ap, ap₂, _∙_}
-use mathlib.Core.List.{List, [], _∷_, _++_, append-nil}
-use Prim.Native.Nat.{ℕ, zero, suc, _+_, _<_}
-use native.Mathlib.Omega.{arith}
+use mathlib.Core.List.{[], _∷_, _++_, append-nil}
+use Prim.Native.Nat.{ℕ, suc, _+_, _<_}
 use Rattle.meaning.specs.Words.{Bytes, forEach}
 use Rattle.laws.proofs.Turns.{forEach-one, forEach-same}
 use Rattle.graph.specs.Part.{newline, marks, part}

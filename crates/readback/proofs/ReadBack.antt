@@ -1,28 +1,27 @@
 -- What is written of a table reads back: the table read after each place of the text has just the edges whose places came before, place 65 x + y for x and y.
 use mathlib.Core.Path.{_≡_, refl, sym, ap, ap₂, _∙_, subst}
-use mathlib.Core.Bool.{Bool, true, false, cond, not, _&&_, _||_, and-false}
+use mathlib.Core.Bool.{Bool, true, false, cond, _&&_, _||_, and-false}
 use mathlib.Core.Logic.{⊎-elim}
-use mathlib.Core.List.{List, [], _∷_, _++_, append-nil, append-assoc}
+use mathlib.Core.List.{[], _∷_, _++_, append-nil, append-assoc}
 use Prim.Native.Nat.{ℕ, zero, suc, _+_, _-_, _*_, _≤_, _<_}
 use native.Mathlib.Decide.{decLt}
 use native.Mathlib.Omega.{arith}
-use borrow.Author.Tests.{lt-ltb, le-ltb, le-leb, ne-eqb, eq-eqb, ltb-true, eqb-true}
-use lib.Dec.{eqb, ltb, leb}
-use Rattle.meaning.specs.Words.{Bytes, Relation, places, sum}
-use Rattle.meaning.specs.Yard.{isProbe}
+use borrow.Author.Tests.{lt-ltb, le-ltb, le-leb, ne-eqb, eq-eqb, ltb-true}
+use lib.Dec.{eqb, ltb}
+use Rattle.meaning.specs.Words.{Bytes, Relation, places}
 use Rattle.meaning.specs.Conflict.{tableOf, entry}
 use Rattle.laws.proofs.Turns.{same-or-other}
-use Rattle.laws.proofs.Slots.{and-left, and-right, true-or-false}
-use Rattle.laws.proofs.Conflicting.{entry-table, probe-range}
+use Rattle.laws.proofs.Slots.{and-left, and-right}
+use Rattle.laws.proofs.Conflicting.{entry-table}
 use Rattle.conflict.specs.Marks.{marked}
 use Rattle.conflict.proofs.Tables.{table-same, entry-of, marked-table}
-use Rattle.graph.specs.declared.Line.{Line}
-use Rattle.graph.specs.declared.Line.the-variants.{Comment, Problem, Edge, Other}
+use Rattle.graph.specs.declared.Line.the-variants.{Problem, Edge}
 use Rattle.graph.specs.declared.Reading.{Reading}
 use Rattle.graph.specs.Part.{newline}
 use Rattle.graph.specs.Lines.{lineOf}
 use Rattle.graph.specs.Table.{Table, noEdges, isJoined, withEdge, edges}
-use Rattle.graph.specs.Reading.{SoFar, unread, nextLine, mayStand, isOutside, isAstray, lineTest, taken, tableAfter, lineRead, linesRead, lastRead, endTest, GraphRead, ended, graphRead}
+use Rattle.graph.specs.Reading.{unread, nextLine, mayStand, isOutside, isAstray, lineTest, taken, tableAfter, lineRead, lastRead, endTest}
+use Rattle.graph.specs.Reading.{GraphRead, ended, graphRead}
 use Rattle.graph.specs.Drawing.{texts, problemLine, edgeLine, edgeText, rowText, tableText}
 use Rattle.readback.proofs.LineSaid.{edgeWords, problemWords, edge-one-line, problem-one-line, edge-line, problem-line, edge-read, problem-read}
 use Rattle.readback.proofs.OneLineMore.{Read, read-none, read-line}

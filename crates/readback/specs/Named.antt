@@ -1,5 +1,5 @@
 -- RULES, "A graph as text": which edges the lines of a text name.
-use mathlib.Core.Bool.{Bool, false, _&&_, _||_}
+use mathlib.Core.Bool.{false, _&&_, _||_}
 use Prim.Native.Nat.{ℕ, _+_}
 use lib.Dec.{eqb}
 use Rattle.meaning.specs.Words.{Bytes, Relation, some}

@@ -4,13 +4,14 @@ use mathlib.Core.Bool.{Bool, true, false, cond}
 use mathlib.Core.List.{List}
 use Prim.Native.Nat.{ℕ}
 use lib.ListN.{getD}
-use Rattle.meaning.specs.Words.{tab, places, sumProbes}
+use Rattle.meaning.specs.Words.{tab, places, sumProbes, mostProbes}
 use Rattle.meaning.specs.Yard.{heaviestOf, slowestOf, leastSlotsOf}
 use Rattle.meaning.specs.Sheet.{probeCount, pairCount, pairRecords, parentOf, packetsOf, hops, allPackets, heaviest, slowest, leastSlots, interfere}
 use Rattle.meaning.specs.Conflict.{tableOf, conflict, conflictTable}
-use Rattle.meaning.specs.Colour.{levels}
+use Rattle.meaning.specs.Colour.{levels, depth}
 use Rattle.meaning.specs.Answer.{isAccepted, sheetTest}
 use Rattle.laws.proofs.Grounds.{parent-read, packets-read}
+use Rattle.laws.proofs.Levels.{depth-read}
 use Rattle.sheet.specs.declared.Tree.{Tree}
 use Rattle.sheet.specs.Tree.{refusedTree, acceptedTree, treeOf}
 
@@ -78,6 +79,10 @@ module _ (s : List ℕ) (ok : isAccepted (sheetTest s) ≡ true) where
     pub least-slots-read : leastSlotsOf (tree .probes) (λ v. getD (tree .parents) v 0) (λ v. getD (tree .packets) v 0) ≡ leastSlots s
     unfolding leastSlots
     least-slots-read = of-tree leastSlotsOf
+
+    -- the largest level is the depth
+    pub deepest-read : mostProbes (tree .probes) (λ v. getD (tree .levels) v 0) ≡ depth s
+    deepest-read = ap₂ (λ (p : ℕ) (l : List ℕ). mostProbes p (λ v. getD l v 0)) (its .probes) (its .levels) ∙ depth-read s ok
 
     -- "Conflicts": the conflict table that is made of a tree and the sheet's pairs is the sheet's
     pub conflicts-read : (table : List (List Bool))

@@ -8,7 +8,7 @@ use native.Mathlib.Omega.{arith}
 use lib.Dec.{ltb}
 use lib.ListN.{length, getD, length-append}
 use Rattle.meaning.specs.Lister.{text, said}
-use Rattle.wording.proofs.AnswersLong.{Within, counted, both, numbered, digits-long}
+use Rattle.lines.proofs.PartsLong.{Within, counted, both, numbered, digits-long}
 use Rattle.graph.specs.Table.{edges}
 use Rattle.graph.specs.Drawing.{texts}
 use Rattle.tabled.specs.Tabled.{headLine, joins, degreeIn, joinedText, vertexLine, vertexText, shownTable}

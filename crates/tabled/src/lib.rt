@@ -6,7 +6,7 @@ ghost use Prim.Native.Nat.{_≤_};
 ghost use lib.ListN.{length, take};
 ghost use Rattle.meaning.specs.Lister.{said};
 ghost use Rattle.lines.specs.Line.{lineLength, lineIn};
-ghost use Rattle.wording.specs.Fits.{Fits};
+ghost use Rattle.lines.specs.Fits.{Fits};
 ghost use Rattle.graph.specs.Drawing.{texts};
 ghost use Rattle.tabled.specs.Tabled.{headLine, degreeIn, joinedText, vertexLine, vertexText, shownTable};
 

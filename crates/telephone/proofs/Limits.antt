@@ -1,6 +1,6 @@
 -- The limits hold of the telephone's answer: neither room nor count refuses an accepted sheet, so that its answer is whole, and what limits all plans limits ours.
 use mathlib.Core.Path.{_≡_, refl, sym, ap, _∙_, subst}
-use mathlib.Core.Bool.{Bool, true, false, cond}
+use mathlib.Core.Bool.{Bool, true, false}
 use mathlib.Core.List.{List}
 use mathlib.Core.Logic.{_≢_, ⊎-elim}
 use Prim.Native.Nat.{ℕ, _+_, _-_, _*_, _/_, _≤_, _<_, min}
@@ -10,26 +10,26 @@ use lib.Dec.{leb}
 use lib.ListN.{length, take}
 use borrow.Author.Tests.{leb-true, leb-false}
 use Rattle.meaning.specs.declared.Mode.the-variants.{Packets}
-use Rattle.meaning.specs.declared.Outcome.{Outcome}
 use Rattle.meaning.specs.declared.Told.{Told}
 use Rattle.meaning.specs.declared.Verdict.{Verdict}
 use Rattle.meaning.specs.Sheet.{decidingSheet, leastSlots}
 use Rattle.meaning.specs.Colour.{coloursUsed, probeColours}
 use Rattle.meaning.specs.Plan.{planBytes, anyPlan}
 use Rattle.meaning.specs.Rounds.{byProbe, slotsOf}
-use Rattle.meaning.specs.Answer.{accepted, isAccepted, sheetTest, planTest, refusedPlan, PlanMade}
+use Rattle.meaning.specs.Answer.{accepted, isAccepted, sheetTest, planTest}
 use Rattle.meaning.specs.Judge.{judge}
 use Rattle.meaning.specs.Telephone.{atMost, timesAny, asked}
 use Rattle.laws.proofs.Turns.{same-or-other}
 use Rattle.laws.proofs.Slots.{true-or-false}
-use Rattle.laws.proofs.PlanMade.{makes, sheet-refuses, room-passes}
+use Rattle.laws.proofs.PlanMade.{room-passes}
+use Rattle.laws.proofs.Telling.{told-plan, told-refusal}
 use Rattle.laws.proofs.Own.{OwnPlan, by-probe-plan}
 use Rattle.limits.proofs.Hops.{hops-limit}
 use Rattle.limits.proofs.Deciding.{decided}
 use Rattle.limits.proofs.Fewest.{slots-least-any, no-hops}
 use Rattle.limits.proofs.MostByProbe.{by-probe-most}
 use Rattle.limits.proofs.RoundBeatsSlot.{by-probe-any}
-use Rattle.telephone.proofs.Telephoned.{whole, nothing, tells, asked-tells}
+use Rattle.telephone.proofs.Telephoned.{whole, nothing, asked-tells}
 
 -- what both numbers of times are enough for, the smaller is
 smaller-enough : (a b ours theirs : ℕ) → ours ≤ a * theirs → ours ≤ b * theirs → ours ≤ min a b * theirs
@@ -72,10 +72,7 @@ module _ (s : List ℕ) where
           times = timesAny (coloursUsed (probeColours s)) (length (slotsOf s (byProbe s))) (leastSlots s);
         }
     unfolding byProbe
-    answered =
-        asked-tells s
-        ∙ ap (λ (m : PlanMade). tells s (m .answer)) (makes Packets byProbe s anyPlan true (ap isAccepted tests-pass))
-        ∙ ap (λ (o : Outcome). tells s (record { outcome = o; colours = byProbe s .colours; slots = length slots; bytes = length (planBytes slots) })) tests-pass
+    answered = asked-tells s ∙ told-plan Packets byProbe s anyPlan (whole s) nothing tests-pass
 
     fewest-slots : leastSlots s ≤ length slots
     fewest-slots =
@@ -95,16 +92,9 @@ module _ (s : List ℕ) where
 
   -- a refused sheet
   module _ (refused : isAccepted (sheetTest s) ≡ false) where
-    tests-refuse : planTest s anyPlan slots ≡ sheetTest s
-    tests-refuse = sheet-refuses Packets byProbe s anyPlan refused
-
     -- Demand 3: on refusal the sheet's own number and place are told, and four zeros
     pub not-answered : asked s ≡ record { outcome = sheetTest s; least = 0; ours = 0; most = 0; times = 0 }
-    not-answered =
-        asked-tells s
-        ∙ ap (λ (m : PlanMade). tells s (m .answer)) (makes Packets byProbe s anyPlan false (ap isAccepted tests-refuse ∙ refused))
-        ∙ ap (λ (o : Outcome). tells s (refusedPlan o)) tests-refuse
-        ∙ ap (λ (b : Bool). cond b (whole s (refusedPlan (sheetTest s))) (nothing (refusedPlan (sheetTest s)))) refused
+    not-answered = asked-tells s ∙ told-refusal Packets byProbe s anyPlan (whole s) nothing refused
 
   -- what holds of both answers holds of every sheet
   by-answer : (P : Told → Type 0)

@@ -4,7 +4,8 @@ ghost use Prim.Native.Nat.{_+_, _≤_};
 ghost use lib.ListN.{length, take};
 ghost use Rattle.meaning.specs.Sheet.{twoAt};
 ghost use Rattle.meaning.specs.Book.{listAt, behindList, slotsText, wakeLine};
-ghost use Rattle.lines.specs.Line.{lineLength, lineIn, Put};
+ghost use Rattle.lines.specs.Line.{lineLength, lineIn};
+ghost use Rattle.lines.specs.Fits.{Fits};
 use meaning::Probe;
 
 // What two bytes at a place say, high first; a byte past the end is 0.
@@ -52,8 +53,8 @@ fn slots_length(entry: &[u8], at: usize) -> usize
 
 // Puts the slots of the list at a place; says where they end.
 fn put_slots(entry: &[u8], at: usize, out: &mut [u8], start: usize) -> usize
-    requires { ⌜ (at ≤ 131072) × (start + length (slotsText (listAt (now entry) at)) ≤ length (now out)) ⌝ }
-    ensures { λ r. ⌜ Put (now (out .entry)) start (slotsText (listAt (now (entry .entry)) at)) (now (out .exit)) r ⌝ }
+    requires { ⌜ at ≤ 131072 ⌝ }
+    ensures { λ r. ⌜ Fits (now (out .entry)) start (slotsText (listAt (now (entry .entry)) at)) (now (out .exit)) r ⌝ }
 {
     let many = two_at(entry, at);
     if many == 0 {
@@ -72,8 +73,10 @@ fn put_slots(entry: &[u8], at: usize, out: &mut [u8], start: usize) -> usize
 // The line of a probe, from the start of its entry on, at the start of a lent buffer; says how many bytes it has, 0 and nothing written where they do not fit.
 pub fn wake_line(probe: Probe, entry: &[u8], out: &mut [u8]) -> usize
     ensures part { λ r. ⌜ (r ≤ length (now (out .exit))) × (r ≡ length (take r (now (out .exit)))) ⌝ }
-    ensures answer { λ r. ⌜ r ≡ lineLength (now (out .entry)) (wakeLine (probe .0) (listAt (now (entry .entry)) 0) (listAt (now (entry .entry)) (behindList (now (entry .entry)) 0))) ⌝ }
-    ensures buffer { λ _. ⌜ now (out .exit) ≡ lineIn (now (out .entry)) (wakeLine (probe .0) (listAt (now (entry .entry)) 0) (listAt (now (entry .entry)) (behindList (now (entry .entry)) 0))) ⌝ }
+    ensures answer { λ r. ⌜ r ≡ lineLength (now (out .entry))
+        (wakeLine (probe .0) (listAt (now (entry .entry)) 0) (listAt (now (entry .entry)) (behindList (now (entry .entry)) 0))) ⌝ }
+    ensures buffer { λ _. ⌜ now (out .exit) ≡ lineIn (now (out .entry))
+        (wakeLine (probe .0) (listAt (now (entry .entry)) 0) (listAt (now (entry .entry)) (behindList (now (entry .entry)) 0))) ⌝ }
 {
     let v = probe.0 as u16;
     let second = behind_list(entry, 0);

@@ -2,12 +2,11 @@
 use mathlib.Core.Path.{_≡_, refl}
 use mathlib.Core.Bool.{Bool, true, false, cond, _&&_}
 use mathlib.Core.List.{List, [], _++_}
-use Prim.Native.Nat.{ℕ, _+_, _≤_, min}
-use Prim.Native.String.{String}
+use Prim.Native.Nat.{ℕ, _≤_, min}
 use native.Mathlib.Omega.{arith}
 use borrow.Author.Tests.{leb-true, ltb-true}
-use lib.Dec.{eqb, leb, ltb}
-use lib.ListN.{length, length-append}
+use lib.Dec.{eqb, ltb}
+use lib.ListN.{length}
 use Rattle.meaning.specs.declared.Mode.{Mode}
 use Rattle.meaning.specs.declared.Mode.the-variants.{Packets}
 use Rattle.meaning.specs.declared.Outcome.{Outcome}
@@ -17,29 +16,13 @@ use Rattle.meaning.specs.declared.Judgement.{Judgement}
 use Rattle.meaning.specs.declared.Choice.{Choice}
 use Rattle.meaning.specs.declared.Choice.the-variants.{Neither, First, Second}
 use Rattle.meaning.specs.Answer.{isAccepted}
-use Rattle.meaning.specs.Lister.{text, decimal, said}
+use Rattle.meaning.specs.Lister.{text, decimal}
 use Rattle.lines.proofs.Decimal.{digits-most}
-use Rattle.lines.proofs.Lined.{said-length}
+use Rattle.lines.proofs.PartsLong.{Within, counted, both, numbered}
 use Rattle.sayings.specs.Saying.{sayingIn}
 use Rattle.sayings.proofs.WordsLong.{saying-long, saying-short}
-use Rattle.wording.specs.Worded.{subject, saidOf, oneOrTwo, anySenders, namedSenders, refusedOf, refusedLine, blamedLine, plannedLine, verdictLine, choiceLine, choiceText, writtenLine, misreadLine}
-
--- so many bytes at most
-pub record Within (bytes : List ℕ) (most : ℕ) : Type 0 where
-  pub short : length bytes ≤ most
-
--- by counting; one part behind another; a word with its number; a number alone
-pub counted : {bytes : List ℕ} {most : ℕ} → leb (length bytes) most ≡ true → Within bytes most
-counted {bytes} {most} e = record { short = leb-true (length bytes) most e }
-
-pub both : {xs ys : List ℕ} {a b : ℕ} → Within xs a → Within ys b → Within (xs ++ ys) (a + b)
-both {xs} {ys} h k = record { short = omega (arith, length-append xs ys, h .short, k .short) }
-
-pub numbered : {a : ℕ} (word : String) (n : ℕ) → Within (text word) a → Within (said word n) (a + 6)
-numbered word n h = record { short = omega (arith, said-length word n, digits-most 5 n, h .short) }
-
-pub digits-long : (n : ℕ) → Within (decimal 5 n) 5
-digits-long n = record { short = digits-most 5 n }
+use Rattle.wording.specs.Worded.{subject, saidOf, oneOrTwo, anySenders, namedSenders, refusedOf}
+use Rattle.wording.specs.Worded.{refusedLine, blamedLine, plannedLine, verdictLine, choiceLine, choiceText, writtenLine, misreadLine}
 
 -- one of two lines
 either : (test : Bool) {xs ys : List ℕ} {a b : ℕ} → a ≤ b → Within xs a → Within ys b → Within (cond test xs ys) b
@@ -126,9 +109,9 @@ unfolding text misreadLine
 misread-long number place =
     let first = numbered {a = 7} "refused" number (counted refl) in
     let line : Within (decimal 20 place) 20 = record { short = digits-most 20 place } in
-    both
-    (both (both (both (both first (counted {bytes = text " "} {most = 1} refl)) line) (counted {bytes = text ": "} {most = 2} refl)) (said-long Packets number (any-long number)))
-    (counted {bytes = text "\n"} {most = 1} refl)
+    let before = both (both first (counted {bytes = text " "} {most = 1} refl)) line in
+    let colon = both before (counted {bytes = text ": "} {most = 2} refl) in
+    both (both colon (said-long Packets number (any-long number))) (counted {bytes = text "\n"} {most = 1} refl)
 
 -- so any answer fits into 256 bytes
 pub refused-most : (outcome : Outcome) → length (refusedLine outcome) ≤ 256

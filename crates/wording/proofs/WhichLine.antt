@@ -9,9 +9,9 @@ use Rattle.meaning.specs.declared.Outcome.{Outcome}
 use Rattle.meaning.specs.declared.Planned.{Planned}
 use Rattle.meaning.specs.declared.Judgement.{Judgement}
 use Rattle.meaning.specs.Lister.{text, decimal, said}
+use Rattle.lines.specs.Fits.{Fits}
+use Rattle.lines.proofs.Fitting.{put-nothing}
 use Rattle.wording.specs.Worded.{ofSenders, subject, oneOrTwo, refusedLine, blamedLine, plannedLine, verdictLine, writtenLine}
-use Rattle.wording.specs.Fits.{Fits}
-use Rattle.wording.proofs.Fitting.{put-nothing}
 
 -- whom a number is said of: senders that are put, or nobody
 module _ (number : ℕ) (senders : List ℕ) where
@@ -50,7 +50,8 @@ module _ (mode : Mode) (judgement : Judgement) where
   unfolding verdictLine
   passed-line e = rw (eq-eqb (judgement .verdict .outcome .number) 0 e)
 
-  pub failed-line : (judgement .verdict .outcome .number ≡ 0 → ⊥) → verdictLine mode judgement ≡ blamedLine mode (judgement .verdict .outcome) (judgement .names)
+  pub failed-line : (judgement .verdict .outcome .number ≡ 0 → ⊥)
+      → verdictLine mode judgement ≡ blamedLine mode (judgement .verdict .outcome) (judgement .names)
   unfolding verdictLine
   failed-line ne = rw (ne-eqb (judgement .verdict .outcome .number) 0 ne)
 

@@ -1,2 +1,1 @@
 pub mod Worded
-pub mod Fits

@@ -87,7 +87,8 @@ loop-again c =
     let a = c .before .before .before .before .args in
     let turn = c .before .before .before .loop in
     laid-next (a .p) (byNode (a .parents)) (byNode (a .t3)) (a .end) (turn .k) (turn .sends) (turn .hears) (turn .at) (c .before .in-branch .result)
-    (c .hearings .result) (turn .inv) (c .before .before .loop-test .taken) (c .before .before .before .before .pre) (omega arith) (c .before .in-branch .ensures) (c .hearings .ensures)
+    (c .hearings .result) (turn .inv) (c .before .before .loop-test .taken) (c .before .before .before .before .pre) (omega arith)
+    (c .before .in-branch .ensures) (c .hearings .ensures)
 
 returns : tie.Need-returns Inv-loop μ-loop
 returns c =

@@ -15,7 +15,8 @@ use Rattle.branch.proofs.branch.Statement.{statement}
 use Rattle.branch.proofs.branch.Tie as tie
 
 abbrev Inv-loop : tie.InvT-loop
-Inv-loop p parents packets top all₀ k₀ all k = (k ≤ p) × (all ≡ sum k (λ i. cond (reaches (λ u. getD parents u 0) (top .0) p (i + 2)) (getD packets (i + 2) 0) 0)) × (all ≤ 255 * k) × (all ≤ 255 * 63)
+Inv-loop p parents packets top all₀ k₀ all k =
+    (k ≤ p) × (all ≡ sum k (λ i. cond (reaches (λ u. getD parents u 0) (top .0) p (i + 2)) (getD packets (i + 2) 0) 0)) × (all ≤ 255 * k) × (all ≤ 255 * 63)
 
 abbrev μ-loop : tie.MeasureT-loop
 μ-loop p parents packets top all₀ k₀ all k = p - k
@@ -45,9 +46,12 @@ loop-less c = search needs
 loop-again : tie.Need-loop-again Inv-loop μ-loop
 loop-again c =
     let start = c .before .before .before in
+    let a = start .args in
     let turn = c .before .before .loop in
     ⊎-elim (λ w. (omega arith, w .2 ∙ ap₂ _+_ (turn .inv .1) (w .1 .ensures) ∙ sym (sum-one _ _), omega arith, omega arith))
-    (λ w. (omega arith, w .1 ∙ sum-past (start .args .parents .now) (start .args .packets .now) (start .pre) (start .args .p) (start .args .top .0) (turn .k) _ (w .0 .left) (turn .inv .1), omega arith, omega arith))
+    (λ w.
+    let past = sum-past (a .parents .now) (a .packets .now) (start .pre) (a .p) (a .top .0) (turn .k) _ (w .0 .left) (turn .inv .1) in
+    (omega arith, w .1 ∙ past, omega arith, omega arith))
     (c .if1 .came)
 
 returns : tie.Need-returns Inv-loop μ-loop

@@ -47,9 +47,12 @@ loop-less c = search needs
 loop-again : tie.Need-loop-again Inv-loop μ-loop
 loop-again c =
     let start = c .before .before .before in
+    let a = start .args in
     let turn = c .before .before .loop in
     ⊎-elim (λ w. (omega arith, most-next (turn .k) _ _ _ _ (turn .inv .1) (w .1 .ensures) (w .3 ∙ w .2 .ensures), omega arith))
-    (λ w. (omega arith, w .1 ∙ lag-past (start .args .parents .now) (start .args .packets .now) (start .pre) (start .args .p) (start .args .top .0) (omega arith) (turn .k) _ (w .0 .left) (turn .inv .1), omega arith))
+    (λ w.
+    let past = lag-past (a .parents .now) (a .packets .now) (start .pre) (a .p) (a .top .0) (omega arith) (turn .k) _ (w .0 .left) (turn .inv .1) in
+    (omega arith, w .1 ∙ past, omega arith))
     (c .if1 .came)
 
 returns : tie.Need-returns Inv-loop μ-loop

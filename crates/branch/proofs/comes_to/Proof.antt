@@ -48,8 +48,9 @@ loop-less c = search needs
 
 loop-again : tie.Need-loop-again Inv-loop μ-loop
 loop-again c =
-    let turn = c .before .before .before .before .before .loop in
-    comes-on _ _ (turn .left) (turn .node) _ _ (c .before .before .before .before .loop-test .taken) (c .before .before .before .if1 .left) (c .before .number-at .ensures) (turn .inv)
+    let test = c .before .before .before in
+    let turn = test .before .before .loop in
+    comes-on _ _ (turn .left) (turn .node) _ _ (test .before .loop-test .taken) (test .if1 .left) (c .before .number-at .ensures) (turn .inv)
 
 returns-3 : tie.Need-returns-3 Inv-loop μ-loop
 returns-3 c =

@@ -12,7 +12,9 @@ use Rattle.branch.proofs.lag_on.Statement.{statement}
 use Rattle.branch.proofs.lag_on.Tie as tie
 
 abbrev Inv-loop : tie.InvT-loop
-Inv-loop parents packets hops end node₀ lag₀ left₀ node lag left = (lagOn (λ u. getD parents u 0) (λ u. getD packets u 0) end left lag node ≡ lagOn (λ u. getD parents u 0) (λ u. getD packets u 0) end hops 0 node₀) × (lag + left ≤ hops)
+Inv-loop parents packets hops end node₀ lag₀ left₀ node lag left =
+    (lagOn (λ u. getD parents u 0) (λ u. getD packets u 0) end left lag node
+    ≡ lagOn (λ u. getD parents u 0) (λ u. getD packets u 0) end hops 0 node₀) × (lag + left ≤ hops)
 
 abbrev μ-loop : tie.MeasureT-loop
 μ-loop parents packets hops end node₀ lag₀ left₀ node lag left = left

@@ -46,7 +46,9 @@ loop-again c =
     let long : length (a .t3) ≡ places = search needs in (
       omega arith,
       ⊎-elim (λ w. most-next (turn .k) _ _ _ _ (turn .inv .1) (w .3 .ensures) (w .5 ∙ w .4 .ensures))
-          (λ w. w .1 ∙ most-past (a .t2) (a .t3) long (a .p) (λ v. let byte : Fits w8 (getD (a .t2) v 0) = search needs in byte .fits) (a .what) (turn .k) _ (w .0 .left) (turn .inv .1))
+          (λ w. w .1
+          ∙ most-past (a .t2) (a .t3) long (a .p) (λ v. let byte : Fits w8 (getD (a .t2) v 0) = search needs in byte .fits)
+          (a .what) (turn .k) _ (w .0 .left) (turn .inv .1))
           (c .if1 .came),
     )
 

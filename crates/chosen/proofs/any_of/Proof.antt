@@ -9,8 +9,6 @@ use native.Mathlib.Omega.{arith}
 use borrow.Author.Needs.{needs}
 use Rattle.chosen.proofs.any_of.Statement.{statement}
 use Rattle.chosen.proofs.any_of.Tie as tie
-use Rattle.chosen.proofs.any_of.Reads as reads
-use Rattle.chosen.proofs.any_of.Lts as lts
 
 abbrev Inv-loop : tie.InvT-loop
 Inv-loop flags any₀ i₀ any i = (i ≤ 65) × (any ≡ some i (λ v. getD flags v false))

@@ -7,8 +7,6 @@ use Rattle.laws.proofs.Lists.{Becoming, becoming-start, next-place, becoming-ne
 use borrow.Author.Needs.{needs}
 use Rattle.chosen.proofs.block.Statement.{statement}
 use Rattle.chosen.proofs.block.Tie as tie
-use Rattle.chosen.proofs.block.Reads as reads
-use Rattle.chosen.proofs.block.Lts as lts
 
 abbrev Inv-loop : tie.InvT-loop
 Inv-loop row blocked₀ i₀ blocked i = Becoming 65 i (λ k. getD blocked₀ k false || getD row k false) blocked₀ blocked

@@ -10,11 +10,6 @@ use Rattle.chosen.proofs.FirstTaken.{unblocked, chosen-nobody, chosen-f
 use borrow.Author.Needs.{needs}
 use Rattle.chosen.proofs.choose.Statement.{statement}
 use Rattle.chosen.proofs.choose.Tie as tie
-use Rattle.chosen.proofs.choose.Reads as reads
-use Rattle.chosen.proofs.choose.Lts as lts
-use Rattle.chosen.proofs.any_of.Reads as any-of-reads
-use Rattle.chosen.proofs.join.Reads as join-reads
-use Rattle.chosen.proofs.owning.Reads as owning-reads
 
 owning-requires : tie.Need-owning-requires
 owning-requires c κs = search needs

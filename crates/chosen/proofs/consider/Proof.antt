@@ -12,9 +12,6 @@ use Rattle.chosen.proofs.Taking.{not-allowed, not-free, taken}
 use borrow.Author.Needs.{needs}
 use Rattle.chosen.proofs.consider.Statement.{statement}
 use Rattle.chosen.proofs.consider.Tie as tie
-use Rattle.chosen.proofs.consider.Reads as reads
-use Rattle.chosen.proofs.consider.Lts as lts
-use Rattle.chosen.proofs.block.Reads as block-reads
 
 cast-i : tie.Need-cast-i
 cast-i c = search needs

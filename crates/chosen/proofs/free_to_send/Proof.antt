@@ -8,8 +8,6 @@ use Rattle.laws.proofs.Lists.{Becoming, becoming-start, becoming-next, becoming
 use borrow.Author.Needs.{needs}
 use Rattle.chosen.proofs.free_to_send.Statement.{statement}
 use Rattle.chosen.proofs.free_to_send.Tie as tie
-use Rattle.chosen.proofs.free_to_send.Reads as reads
-use Rattle.chosen.proofs.free_to_send.Lts as lts
 
 abbrev Inv-loop : tie.InvT-loop
 Inv-loop held owners blocked free₀ i₀ free i = Becoming 65 i (λ v. getD owners v false || holds held v && not (getD blocked v false)) free₀ free

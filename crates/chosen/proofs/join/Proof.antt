@@ -10,9 +10,6 @@ use native.Mathlib.Omega.{arith}
 use borrow.Author.Needs.{needs}
 use Rattle.chosen.proofs.join.Statement.{statement}
 use Rattle.chosen.proofs.join.Tie as tie
-use Rattle.chosen.proofs.join.Reads as reads
-use Rattle.chosen.proofs.join.Lts as lts
-use Rattle.chosen.proofs.consider.Reads as consider-reads
 
 abbrev Inv-loop : tie.InvT-loop
 Inv-loop p table may chosen₀ blocked₀ k₀ chosen blocked k =

@@ -8,8 +8,6 @@ use native.Mathlib.Omega.{arith}
 use borrow.Author.Needs.{needs}
 use Rattle.chosen.proofs.next_free.Statement.{statement}
 use Rattle.chosen.proofs.next_free.Tie as tie
-use Rattle.chosen.proofs.next_free.Reads as reads
-use Rattle.chosen.proofs.next_free.Lts as lts
 
 abbrev Inv-loop : tie.InvT-loop
 Inv-loop free k p j₀ j = (k ≤ j) × (j ≤ p) × ((i : ℕ) → i < j → k ≤ i → getD free (i + 2) false ≡ false)

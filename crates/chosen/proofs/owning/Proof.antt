@@ -9,8 +9,6 @@ use Rattle.laws.proofs.Lists.{Becoming, becoming-start, becoming-next, becoming
 use borrow.Author.Needs.{needs}
 use Rattle.chosen.proofs.owning.Statement.{statement}
 use Rattle.chosen.proofs.owning.Tie as tie
-use Rattle.chosen.proofs.owning.Reads as reads
-use Rattle.chosen.proofs.owning.Lts as lts
 
 abbrev Inv-loop : tie.InvT-loop
 Inv-loop own held colour flags₀ i₀ flags i = Becoming 65 i (λ v. eqb (getD own v 0) colour && holds held v) flags₀ flags

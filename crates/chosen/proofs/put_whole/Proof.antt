@@ -8,8 +8,6 @@ use native.Mathlib.Omega.{arith}
 use borrow.Author.Needs.{needs}
 use Rattle.chosen.proofs.put_whole.Statement.{statement}
 use Rattle.chosen.proofs.put_whole.Tie as tie
-use Rattle.chosen.proofs.put_whole.Reads as reads
-use Rattle.chosen.proofs.put_whole.Lts as lts
 
 abbrev Inv-loop : tie.InvT-loop
 Inv-loop rest₀ bytes i₀ rest i = Copying bytes rest₀ rest i

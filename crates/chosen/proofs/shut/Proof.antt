@@ -7,8 +7,6 @@ use Rattle.laws.proofs.Lists.{Becoming, becoming-start, next-place, becoming-ne
 use borrow.Author.Needs.{needs}
 use Rattle.chosen.proofs.shut.Statement.{statement}
 use Rattle.chosen.proofs.shut.Tie as tie
-use Rattle.chosen.proofs.shut.Reads as reads
-use Rattle.chosen.proofs.shut.Lts as lts
 
 abbrev Inv-loop : tie.InvT-loop
 Inv-loop row owners free₀ i₀ free i = Becoming 65 i (λ v. getD owners v false || getD free₀ v false && not (getD row v false)) free₀ free

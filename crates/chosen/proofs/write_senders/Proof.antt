@@ -13,11 +13,6 @@ use native.Mathlib.Omega.{arith}
 use borrow.Author.Needs.{needs}
 use Rattle.chosen.proofs.write_senders.Statement.{statement}
 use Rattle.chosen.proofs.write_senders.Tie as tie
-use Rattle.chosen.proofs.write_senders.Reads as reads
-use Rattle.chosen.proofs.write_senders.Lts as lts
-use Rattle.chosen.proofs.free_to_send.Reads as free-to-send-reads
-use Rattle.chosen.proofs.next_free.Reads as next-free-reads
-use Rattle.chosen.proofs.shut.Reads as shut-reads
 
 abbrev Inv-loop : tie.InvT-loop
 Inv-loop rest₀ p table held owners blocked free₀ n₀ k₀ rest free n k =

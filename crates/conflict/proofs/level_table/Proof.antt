@@ -1,5 +1,5 @@
 -- `conflict::level_table` meets its contract. The invariant: the table has the levels that meet by the probes passed.
-use Prim.Native.Nat.{_+_, _≤_, _-_}
+use Prim.Native.Nat.{ℕ, _+_, _≤_, _-_}
 use mathlib.Core.Logic.{⊎-elim}
 use mathlib.Core.List.{List, []}
 use mathlib.Core.Bool.{Bool, false}
@@ -19,7 +19,10 @@ abbrev μ-loop : tie.MeasureT-loop
 μ-loop p levels table t₀ n k₀ t k = p - k
 
 loop-holds : tie.Need-loop-holds Inv-loop μ-loop
-loop-holds c = (omega arith, no-marks 65 (levelsMet 0 (c .args .p) (λ v. getD (c .args .t2) v 0) (entry (c .args .t3))) (no-levels (c .args .p) (λ v. getD (c .args .t2) v 0) (entry (c .args .t3))))
+loop-holds c =
+    let a = c .args in
+    let level : ℕ → ℕ = λ v. getD (a .t2) v 0 in
+    (omega arith, no-marks 65 (levelsMet 0 (a .p) level (entry (a .t3))) (no-levels (a .p) level (entry (a .t3))))
 
 add-x : tie.Need-add-x Inv-loop μ-loop
 add-x c = search needs

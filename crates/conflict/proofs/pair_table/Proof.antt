@@ -46,7 +46,9 @@ loop-less : tie.Need-loop-less Inv-loop μ-loop
 loop-less c = search needs
 
 loop-again : tie.Need-loop-again Inv-loop μ-loop
-loop-again c = (omega arith, c .pair2 .ensures ∙ cc (record-marked (c .before .before .before .before .before .before .before .before .before .args .records .now) (c .before .before .before .before .before .before .before .loop .k)))
+loop-again c =
+    let turn = c .before .before .before .before .before .before .before in
+    (omega arith, c .pair2 .ensures ∙ cc (record-marked (turn .before .before .args .records .now) (turn .loop .k)))
 
 returns : tie.Need-returns Inv-loop μ-loop
 returns c = let end : c .before .loop .k ≡ c .before .before .before .args .q = omega arith in rw end at (c .before .loop .inv .1)

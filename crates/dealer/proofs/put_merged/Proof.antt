@@ -1,8 +1,8 @@
 -- `dealer::put_merged` meets its contract: one sentence behind the other.
 use borrow.Author.Needs.{needs}
 use Rattle.meaning.specs.Lister.{text}
-use Rattle.wording.proofs.Fitting.{put-whole, put-behind}
-use Rattle.dealer.specs.Sentences.{mergedSaid}
+use Rattle.lines.proofs.Fitting.{put-whole, put-behind}
+use Rattle.dealer.specs.Sentences.{mergedSaid, mergedSentences}
 use Rattle.dealer.proofs.put_merged.Statement.{statement}
 use Rattle.dealer.proofs.put_merged.Tie as tie
 
@@ -28,7 +28,7 @@ same-length : tie.Need-same-length
 same-length c = search needs
 
 returns : tie.Need-returns
-unfolding text mergedSaid
+unfolding text mergedSaid mergedSentences
 returns c =
     let end = c .before .before in
     let most = end .before .before .before .before .before in

@@ -1,7 +1,7 @@
 -- `dealer::put_nobody` meets its contract: our plan is longer than the least, and a part of it is said, or not, and nobody's is shorter.
 use borrow.Author.Needs.{needs}
 use Rattle.meaning.specs.Lister.{text}
-use Rattle.wording.proofs.Fitting.{put-whole, put-behind, put-same}
+use Rattle.lines.proofs.Fitting.{put-whole, put-behind, put-same}
 use Rattle.dealer.proofs.Spoken.{part-said, none-shorter}
 use Rattle.dealer.proofs.put_nobody.Statement.{statement}
 use Rattle.dealer.proofs.put_nobody.Tie as tie

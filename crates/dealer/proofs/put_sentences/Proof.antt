@@ -1,8 +1,8 @@
 -- `dealer::put_sentences` meets its contract: one sentence behind the other.
 use borrow.Author.Needs.{needs}
 use Rattle.meaning.specs.Lister.{text}
-use Rattle.wording.proofs.Fitting.{put-behind}
-use Rattle.dealer.specs.Sentences.{leastSaid}
+use Rattle.lines.proofs.Fitting.{put-behind}
+use Rattle.dealer.specs.Sentences.{leastSaid, sentences}
 use Rattle.dealer.proofs.put_sentences.Statement.{statement}
 use Rattle.dealer.proofs.put_sentences.Tie as tie
 
@@ -25,7 +25,7 @@ same-length : tie.Need-same-length
 same-length c = search needs
 
 returns : tie.Need-returns
-unfolding text leastSaid
+unfolding text leastSaid sentences
 returns c =
     let end = c .before .before in
     let most = end .before .before .before .before in

@@ -3,7 +3,7 @@ use mathlib.Core.Path.{ap, _∙_}
 use borrow.Author.Needs.{needs}
 use native.Mathlib.Omega.{arith}
 use Rattle.meaning.specs.Lister.{text}
-use Rattle.wording.proofs.Fitting.{put-nothing, put-whole, put-behind, put-same}
+use Rattle.lines.proofs.Fitting.{put-nothing, put-whole, put-behind, put-same}
 use Rattle.dealer.specs.Sentences.{minutes}
 use Rattle.dealer.proofs.Spoken.{time-said, time-unsaid}
 use Rattle.dealer.proofs.put_timed.Statement.{statement}

@@ -1,6 +1,6 @@
 -- `dealer::spread` meets its contract: what is said is made in a line of its own, which has room for it, and copied as a whole.
 use borrow.Author.Needs.{needs}
-use Rattle.wording.proofs.Wordings.{line-end, line-counts, answered}
+use Rattle.lines.proofs.OwnLine.{line-end, line-counts, answered}
 use Rattle.dealer.proofs.Spoken.{spread-most}
 use Rattle.dealer.proofs.spread.Statement.{statement}
 use Rattle.dealer.proofs.spread.Tie as tie
@@ -12,16 +12,10 @@ put-spread-requires : tie.Need-put-spread-requires
 put-spread-requires c κs = search needs
 
 array-share-prefix-line : tie.Need-array-share-prefix-line
-array-share-prefix-line c =
-    let put = c .before in
-    let a = put .before .before .before .args in
-    line-end (spread-most (a .best) (a .worst)) (put .put-spread .ensures)
+array-share-prefix-line c = line-end (spread-most _ _) (c .before .put-spread .ensures)
 
 slice-aggregate-put-words : tie.Need-slice-aggregate-put-words
-slice-aggregate-put-words c =
-    let put = c .before .before in
-    let a = put .before .before .before .args in
-    line-counts (spread-most (a .best) (a .worst)) (put .put-spread .ensures)
+slice-aggregate-put-words c = line-counts (spread-most _ _) (c .before .before .put-spread .ensures)
 
 put-words-requires : tie.Need-put-words-requires
 put-words-requires c κs = search needs
@@ -32,9 +26,7 @@ same-length c = search needs
 returns : tie.Need-returns
 returns c =
     let copy = c .before .before in
-    let put = copy .before .before .before .before in
-    let a = put .before .before .before .args in
-    answered (spread-most (a .best) (a .worst)) (put .put-spread .ensures) (copy .put-words .ensures)
+    answered (spread-most _ _) (copy .before .before .before .before .put-spread .ensures) (copy .put-words .ensures)
 
 pub spread-spec : {M : Type 1} → statement M
 spread-spec =

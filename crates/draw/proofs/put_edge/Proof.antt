@@ -1,9 +1,8 @@
 -- `draw::put_edge` meets its contract: the parts of the line are put one behind the other, or nothing is.
 use borrow.Author.Needs.{needs}
 use Rattle.meaning.specs.Lister.{text}
-use Rattle.wording.proofs.Fitting.{put-whole, put-behind}
+use Rattle.lines.proofs.Fitting.{put-whole, put-behind, put-if, put-if-not}
 use Rattle.graph.specs.Drawing.{edgeLine}
-use Rattle.draw.proofs.TextsPut.{put-if, put-if-not}
 use Rattle.draw.proofs.put_edge.Statement.{statement}
 use Rattle.draw.proofs.put_edge.Tie as tie
 

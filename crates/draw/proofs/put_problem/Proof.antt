@@ -1,7 +1,7 @@
 -- `draw::put_problem` meets its contract: the parts of the line are put one behind the other.
 use borrow.Author.Needs.{needs}
 use Rattle.meaning.specs.Lister.{text}
-use Rattle.wording.proofs.Fitting.{put-whole, put-behind}
+use Rattle.lines.proofs.Fitting.{put-whole, put-behind}
 use Rattle.graph.specs.Drawing.{problemLine}
 use Rattle.draw.proofs.put_problem.Statement.{statement}
 use Rattle.draw.proofs.put_problem.Tie as tie

@@ -1,14 +1,28 @@
 -- `draw::put_row` meets its contract. The invariant: what stands before place y of the row is put. The measure is what is left of the row.
-use mathlib.Core.Path.{_≡_, refl}
-use Prim.Native.Nat.{_-_, _≤_}
+use mathlib.Core.Path.{_≡_, refl, ap₂}
+use mathlib.Core.Bool.{cond, _&&_}
+use mathlib.Core.List.{List, []}
+use Prim.Native.Nat.{ℕ, _+_, _-_, _≤_}
+use lib.Dec.{ltb}
 use lib.ListN.{length}
-use Rattle.wording.specs.Fits.{Fits}
-use Rattle.graph.specs.Drawing.{texts, edgeText, rowText}
-use Rattle.draw.proofs.TextsPut.{texts-start, texts-all, row-next}
+use Rattle.meaning.specs.Conflict.{entry}
+use Rattle.lines.specs.Fits.{Fits}
+use Rattle.lines.proofs.Fitting.{put-same}
+use Rattle.graph.specs.Table.{Table}
+use Rattle.graph.specs.Drawing.{texts, edgeLine, edgeText, rowText}
+use Rattle.graph.proofs.TextsPut.{texts-start, texts-next, texts-all}
 use native.Mathlib.Omega.{arith}
 use borrow.Author.Needs.{needs}
 use Rattle.draw.proofs.put_row.Statement.{statement}
 use Rattle.draw.proofs.put_row.Tie as tie
+
+-- one place of a row more
+row-next : {l mid after : List ℕ} {at next end : ℕ} (table : Table) (x y a b : ℕ) → a ≡ x - 1 → b ≡ y - 1
+    → Fits l at (texts y (edgeText table x)) mid next → Fits mid next (cond (ltb x y && entry table x y) (edgeLine a b) []) after end
+    → Fits l at (texts (y + 1) (edgeText table x)) after end
+row-next table x y a b smaller larger before edge =
+    texts-next y (edgeText table x) before
+    (put-same (ap₂ (λ (v w : ℕ). cond (ltb x y && entry table x y) (edgeLine v w) []) smaller larger) edge)
 
 abbrev Inv-loop : tie.InvT-loop
 Inv-loop table x out₀ at a end₀ y₀ out end y =
@@ -50,7 +64,8 @@ loop-again c =
     let read = put .before .before in
     let start = read .before .before .before .before .before .before .args in
     let turn = read .before .before .before .loop in
-    (omega arith, search needs, turn .inv .2, row-next (start .table .now) (start .x) (turn .y) _ _ (turn .inv .2) (read .vertex2 .ensures) (turn .inv .3) (put .put-edge .ensures))
+    let next = row-next (start .table .now) (start .x) (turn .y) _ _ (turn .inv .2) (read .vertex2 .ensures) (turn .inv .3) (put .put-edge .ensures) in
+    (omega arith, search needs, turn .inv .2, next)
 
 same-length : tie.Need-same-length Inv-loop μ-loop
 same-length c = c .before .loop .inv .1

@@ -2,7 +2,7 @@
 use borrow.Author.Needs.{needs}
 use mathlib.Core.Path.{ap}
 use Prim.Native.Nat.{ℕ}
-use Rattle.wording.proofs.Fitting.{put-behind, put-same}
+use Rattle.lines.proofs.Fitting.{put-behind, put-same}
 use Rattle.graph.specs.Drawing.{problemLine, tableText}
 use Rattle.draw.proofs.put_table.Statement.{statement}
 use Rattle.draw.proofs.put_table.Tie as tie

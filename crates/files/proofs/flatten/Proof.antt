@@ -1,5 +1,5 @@
 -- `files::flatten` meets its contract: before place i each byte is as it is shown, and from there on as it was.
-use mathlib.Core.Path.{_≡_, refl, sym, ap, _∙_}
+use mathlib.Core.Path.{_≡_, refl, ap, _∙_}
 use Prim.Native.Nat.{_-_}
 use lib.ListN.{length, getD}
 use native.Mathlib.Omega.{arith}

@@ -1,7 +1,6 @@
 -- `files::folder_end` reads no byte outside the path. The measure is what is left.
 use Prim.Native.Nat.{_-_}
 use lib.ListN.{length}
-use native.Mathlib.Omega.{arith}
 use borrow.Author.Needs.{needs}
 use Rattle.files.proofs.folder_end.Statement.{statement}
 use Rattle.files.proofs.folder_end.Tie as tie

@@ -1,5 +1,4 @@
 -- `files::plain` meets its contract: its test is the definition's.
-use borrow.Author.Needs.{needs}
 use Rattle.files.proofs.plain.Statement.{statement}
 use Rattle.files.proofs.plain.Tie as tie
 

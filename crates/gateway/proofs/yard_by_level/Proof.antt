@@ -4,10 +4,6 @@ use Rattle.gateway.specs.Flat.{flatPlanned}
 use borrow.Author.Needs.{needs}
 use Rattle.gateway.proofs.yard_by_level.Statement.{statement}
 use Rattle.gateway.proofs.yard_by_level.Tie as tie
-use Rattle.gateway.proofs.yard_by_level.Reads as reads
-use Rattle.gateway.proofs.yard_by_level.Lts as lts
-use Rattle.gateway.proofs.planned.Reads as planned-reads
-use Rattle.plan.proofs.by_level.Reads as by-level-reads
 
 -- src/lib.rt:71:9
 by-level-requires : tie.Need-by-level-requires

@@ -4,10 +4,6 @@ use Rattle.gateway.specs.Flat.{flatPlanned}
 use borrow.Author.Needs.{needs}
 use Rattle.gateway.proofs.yard_by_probe.Statement.{statement}
 use Rattle.gateway.proofs.yard_by_probe.Tie as tie
-use Rattle.gateway.proofs.yard_by_probe.Reads as reads
-use Rattle.gateway.proofs.yard_by_probe.Lts as lts
-use Rattle.gateway.proofs.planned.Reads as planned-reads
-use Rattle.plan.proofs.by_probe.Reads as by-probe-reads
 
 -- src/lib.rt:61:9
 by-probe-requires : tie.Need-by-probe-requires

@@ -4,9 +4,6 @@ use Rattle.gateway.specs.Flat.{choiceNumber}
 use borrow.Author.Needs.{needs}
 use Rattle.gateway.proofs.yard_choose.Statement.{statement}
 use Rattle.gateway.proofs.yard_choose.Tie as tie
-use Rattle.gateway.proofs.yard_choose.Reads as reads
-use Rattle.gateway.proofs.yard_choose.Lts as lts
-use Rattle.chooser.proofs.choice.Reads as choice-reads
 
 -- src/lib.rt:89:9
 choice-requires : tie.Need-choice-requires

@@ -6,7 +6,7 @@ use native.Mathlib.Omega.{arith}
 use borrow.Author.Needs.{needs}
 use Rattle.meaning.specs.Words.{some, least}
 use Rattle.laws.proofs.Turns.{some-one}
-use Rattle.laws.proofs.First.{First, least-first, first-only}
+use Rattle.laws.proofs.First.{least-first, first-only}
 use Rattle.graph.specs.Part.{space, part}
 use Rattle.graph.specs.Lines.{same}
 use Rattle.grammar.proofs.place_of.Statement.{statement}

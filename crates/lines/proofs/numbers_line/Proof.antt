@@ -54,9 +54,11 @@ add-if1-3 c = search needs
 
 returns : tie.Need-returns
 returns c =
-    let a = c .before .before .before .before .before .before .before .args in
+    let third = c .before .before .before in
+    let a = third .before .before .before .before .args in
     line-short _ (numbersLine (a .colours) (a .slots) (a .packets) (a .heaviest) (a .least))
-    (numbers-short _ _ _ _ _ _ _ _ _ _ _ (c .before .before .before .before .before .digits .ensures .0) (c .before .before .before .before .digits2 .ensures .0) (c .before .before .before .digits3 .ensures .0) (c .before .before .digits4 .ensures .0) (c .before .digits5 .ensures .0) (c .if1 .taken))
+    (numbers-short _ _ _ _ _ _ _ _ _ _ _ (third .before .before .digits .ensures .0) (third .before .digits2 .ensures .0) (third .digits3 .ensures .0)
+    (c .before .before .digits4 .ensures .0) (c .before .digits5 .ensures .0) (c .if1 .taken))
 
 slice-aggregate-put-said : tie.Need-slice-aggregate-put-said
 slice-aggregate-put-said c = search needs
@@ -85,11 +87,23 @@ put-said-requires-4 c κs = search needs
 slice-aggregate-put-said-5 : tie.Need-slice-aggregate-put-said-5
 slice-aggregate-put-said-5 c = search needs
 
--- the first parts lie too far back for a search, and so does the test
+-- the third part that is put, from the fourth, and from it the second, the first and the test: they lie too far back for a search
+abbrev third-put : tie.After-put-said4 → tie.After-put-said3
+third-put c = c .before .before .before .before .before
+
+abbrev second-put : tie.After-put-said3 → tie.After-put-said2
+second-put c = c .before .before .before .before .before
+
+abbrev first-put : tie.After-put-said3 → tie.After-put-said
+first-put c = second-put c .before .before .before .before .before
+
+abbrev tested : tie.After-put-said3 → tie.Else1
+tested c = first-put c .before .before .before
+
 put-said-requires-5 : tie.Need-put-said-requires-5
 put-said-requires-5 c κs =
-    let first = c .before .before .before .before .before .before .before .before .before .before .before .before .before .before .before .before .before .before .before .put-said .ensures in
-    let test = c .before .before .before .before .before .before .before .before .before .before .before .before .before .before .before .before .before .before .before .before .before .before in
+    let first = first-put (c .before .before .before .before .before .before .before .before .before) .put-said .ensures in
+    let test = tested (c .before .before .before .before .before .before .before .before .before) in
     omega (arith, put-long first)
 
 slice-aggregate-put-text : tie.Need-slice-aggregate-put-text
@@ -97,9 +111,9 @@ slice-aggregate-put-text c = search needs
 
 put-text-requires : tie.Need-put-text-requires
 put-text-requires c κs =
-    let first = c .before .before .before .before .before .before .before .before .before .before .before .before .before .before .before .before .before .before .before .before .before .before .before .before .put-said .ensures in
-    let second = c .before .before .before .before .before .before .before .before .before .before .before .before .before .before .before .before .before .before .before .put-said2 .ensures in
-    let test = c .before .before .before .before .before .before .before .before .before .before .before .before .before .before .before .before .before .before .before .before .before .before .before .before .before .before .before in
+    let first = first-put (third-put (c .before .before .before .before .before .before .before .before .before)) .put-said .ensures in
+    let second = second-put (third-put (c .before .before .before .before .before .before .before .before .before)) .put-said2 .ensures in
+    let test = tested (third-put (c .before .before .before .before .before .before .before .before .before)) in
     omega (arith, put-long first, put-long second)
 
 same-length : tie.Need-same-length
@@ -108,16 +122,17 @@ same-length c = search needs
 returns-2 : tie.Need-returns-2
 unfolding text numbersLine
 returns-2 c =
-    let first = c .before .before .before .before .before .before .before .before .before .before .before .before .before .before .before .before .before .before .before .before .before .before .before .before .before .before .before .put-said .ensures in
-    let second = c .before .before .before .before .before .before .before .before .before .before .before .before .before .before .before .before .before .before .before .before .before .before .put-said2 .ensures in
-    let third = c .before .before .before .before .before .before .before .before .before .before .before .before .before .before .before .before .before .put-said3 .ensures in
-    let fourth = c .before .before .before .before .before .before .before .before .before .before .before .before .put-said4 .ensures in
-    let fifth = c .before .before .before .before .before .before .before .put-said5 .ensures in
-    let last = c .before .before .put-text .ensures in
-    let test = c .before .before .before .before .before .before .before .before .before .before .before .before .before .before .before .before .before .before .before .before .before .before .before .before .before .before .before .before .before .before in
+    let last = c .before .before in
+    let fifth = last .before .before .before .before .before in
+    let fourth = fifth .before .before .before .before .before in
+    let third = third-put fourth in
+    let test = tested third in
+    let counted = test .before .before .before in
+    let three = put-more (put-more (first-put third .put-said .ensures) (second-put third .put-said2 .ensures)) (third .put-said3 .ensures) in
     line-put
-    (numbers-room _ _ _ _ _ _ _ _ _ _ _ (test .before .before .before .before .before .digits .ensures .0) (test .before .before .before .before .digits2 .ensures .0) (test .before .before .before .digits3 .ensures .0) (test .before .before .digits4 .ensures .0) (test .before .digits5 .ensures .0) (test .if1 .left))
-    (put-more (put-more (put-more (put-more (put-more first second) third) fourth) fifth) last)
+    (numbers-room _ _ _ _ _ _ _ _ _ _ _ (counted .before .before .digits .ensures .0) (counted .before .digits2 .ensures .0) (counted .digits3 .ensures .0)
+    (test .before .before .digits4 .ensures .0) (test .before .digits5 .ensures .0) (test .if1 .left))
+    (put-more (put-more (put-more three (fourth .put-said4 .ensures)) (fifth .put-said5 .ensures)) (last .put-text .ensures))
 
 pub numbers-line-spec : {M : Type 1} → statement M
 numbers-line-spec =

@@ -1,14 +1,14 @@
 -- `lines::slot_fits` meets its contract. The invariant: what is left of the room behind the first i senders. The measure is what is left of the senders.
 use Prim.Native.Nat.{_-_, _≤_}
 use lib.ListN.{length}
-use Rattle.lines.proofs.SendersText.{Fits, fits-never, fits-start, fits-short, fits-next, fits-all}
+use Rattle.lines.proofs.SendersText.{RoomLeft, fits-never, fits-start, fits-short, fits-next, fits-all}
 use native.Mathlib.Omega.{arith}
 use borrow.Author.Needs.{needs}
 use Rattle.lines.proofs.slot_fits.Statement.{statement}
 use Rattle.lines.proofs.slot_fits.Tie as tie
 
 abbrev Inv-loop : tie.InvT-loop
-Inv-loop senders room n around left₀ i₀ left i = (i ≤ length senders) × Fits n senders room left i
+Inv-loop senders room n around left₀ i₀ left i = (i ≤ length senders) × RoomLeft n senders room left i
 
 abbrev μ-loop : tie.MeasureT-loop
 μ-loop senders room n around left₀ i₀ left i = length senders - i
@@ -49,7 +49,8 @@ add-need c = search needs
 returns-2 : tie.Need-returns-2 Inv-loop μ-loop
 returns-2 c =
     let turn = c .before .before .before .before .loop in
-    fits-short _ _ _ (turn .left) (turn .i) _ _ (c .before .before .before .loop-test .taken) (c .before .before .number-at .ensures) (c .before .digits2 .ensures .0)
+    fits-short _ _ _ (turn .left) (turn .i) _ _ (c .before .before .before .loop-test .taken) (c .before .before .number-at .ensures)
+    (c .before .digits2 .ensures .0)
     (turn .inv .1)
     (c .if2 .taken)
 
@@ -63,7 +64,8 @@ loop-again : tie.Need-loop-again Inv-loop μ-loop
 loop-again c =
     let turn = c .before .before .before .before .loop in (
       omega arith,
-      fits-next _ _ _ (turn .left) (turn .i) _ _ (c .before .before .before .loop-test .taken) (c .before .before .number-at .ensures) (c .before .digits2 .ensures .0)
+      fits-next _ _ _ (turn .left) (turn .i) _ _ (c .before .before .before .loop-test .taken) (c .before .before .number-at .ensures)
+          (c .before .digits2 .ensures .0)
           (turn .inv .1)
           (c .if2 .left),
     )

@@ -1,6 +1,7 @@
 -- `lines::slot_line` meets its contract: the parts of the line are put one behind the other, where the buffer has room for all of them.
+use Prim.Native.Nat.{_+_, _≤_}
 use lib.ListN.{length}
-use Rattle.meaning.specs.Lister.{text, slotLine}
+use Rattle.meaning.specs.Lister.{decimal, text, sendersText, slotLine}
 use Rattle.lines.proofs.Putting.{put-more, put-long}
 use Rattle.lines.proofs.Lined.{line-short, line-put, slot-length}
 use Rattle.lines.proofs.SendersText.{slot-short, slot-room}
@@ -8,6 +9,18 @@ use native.Mathlib.Omega.{arith}
 use borrow.Author.Needs.{needs}
 use Rattle.lines.proofs.slot_line.Statement.{statement}
 use Rattle.lines.proofs.slot_line.Tie as tie
+
+-- behind the test there is room for the parts of the line
+room : (c : tie.Else1)
+    → let a = c .before .before .before .before .args in
+    2 + length (decimal 5 (a .number .0)) + length (sendersText (a .senders .now)) ≤ length (a .out .now)
+room c =
+    let a = c .before .before .before .before .args in
+    omega (
+      arith,
+      slot-room (a .number .0) (a .senders .now) (length (a .out .now)) _ (c .before .slot-fits .ensures) (c .if1 .left),
+      slot-length (a .number .0) (a .senders .now),
+    )
 
 slot-fits-requires : tie.Need-slot-fits-requires
 slot-fits-requires c κs = search needs
@@ -21,44 +34,37 @@ cast-put-digits : tie.Need-cast-put-digits
 cast-put-digits c = search needs
 
 put-digits-requires : tie.Need-put-digits-requires
-put-digits-requires c κs =
-    let start = c .before .before .before .before .before .args in
-    let room = slot-room (start .number .0) (start .senders .now) (length (start .out .now)) _ (c .before .before .slot-fits .ensures) (c .before .if1 .left) in
-    let long = slot-length (start .number .0) (start .senders .now) in
-    omega (arith, room, long)
+put-digits-requires c κs = omega (arith, room (c .before))
 
 slice-aggregate-put-text : tie.Need-slice-aggregate-put-text
 slice-aggregate-put-text c = search needs
 
 put-text-requires : tie.Need-put-text-requires
 put-text-requires c κs =
-    let start = c .before .before .before .before .before .before .before .before .before .before .args in
-    let room = slot-room (start .number .0) (start .senders .now) (length (start .out .now)) _ (c .before .before .before .before .before .before .before .slot-fits .ensures) (c .before .before .before .before .before .before .if1 .left) in
-    let long = slot-length (start .number .0) (start .senders .now) in
-    let number = c .before .before .before .before .put-digits .ensures in
-    omega (arith, room, long, number .ends, put-long number)
+    let number = c .before .before .before .before in
+    let put = number .put-digits .ensures in
+    omega (arith, room (number .before .before), put .ends, put-long put)
 
 put-senders-requires : tie.Need-put-senders-requires
 put-senders-requires c κs =
-    let start = c .before .before .before .before .before .before .before .before .before .before .before .before .before .before .args in
-    let room = slot-room (start .number .0) (start .senders .now) (length (start .out .now)) _ (c .before .before .before .before .before .before .before .before .before .before .before .slot-fits .ensures) (c .before .before .before .before .before .before .before .before .before .before .if1 .left) in
-    let long = slot-length (start .number .0) (start .senders .now) in
-    let number = c .before .before .before .before .before .before .before .before .put-digits .ensures in
-    let colon = c .before .before .before .put-text .ensures in
-    omega (arith, room, long, number .ends, put-long number, colon .ends, put-long colon)
+    let colon = c .before .before .before in
+    let number = colon .before .before .before .before .before in
+    let put = number .put-digits .ensures in
+    let next = colon .put-text .ensures in
+    omega (arith, room (number .before .before), put .ends, put-long put, next .ends, put-long next)
 
 slice-aggregate-put-text-2 : tie.Need-slice-aggregate-put-text-2
 slice-aggregate-put-text-2 c = search needs
 
 put-text-requires-2 : tie.Need-put-text-requires-2
 put-text-requires-2 c κs =
-    let start = c .before .before .before .before .before .before .before .before .before .before .before .before .before .before .before .before .before .before .before .args in
-    let room = slot-room (start .number .0) (start .senders .now) (length (start .out .now)) _ (c .before .before .before .before .before .before .before .before .before .before .before .before .before .before .before .before .slot-fits .ensures) (c .before .before .before .before .before .before .before .before .before .before .before .before .before .before .before .if1 .left) in
-    let long = slot-length (start .number .0) (start .senders .now) in
-    let number = c .before .before .before .before .before .before .before .before .before .before .before .before .before .put-digits .ensures in
-    let colon = c .before .before .before .before .before .before .before .before .put-text .ensures in
-    let senders = c .before .before .before .before .put-senders .ensures in
-    omega (arith, room, long, number .ends, put-long number, colon .ends, put-long colon, senders .ends, put-long senders)
+    let senders = c .before .before .before .before in
+    let colon = senders .before .before .before .before in
+    let number = colon .before .before .before .before .before in
+    let put = number .put-digits .ensures in
+    let next = colon .put-text .ensures in
+    let last = senders .put-senders .ensures in
+    omega (arith, room (number .before .before), put .ends, put-long put, next .ends, put-long next, last .ends, put-long last)
 
 same-length : tie.Need-same-length
 same-length c = search needs
@@ -66,12 +72,12 @@ same-length c = search needs
 returns-2 : tie.Need-returns-2
 unfolding text slotLine
 returns-2 c =
-    let number = c .before .before .before .before .before .before .before .before .before .before .before .before .before .before .before .before .put-digits .ensures in
-    let colon = c .before .before .before .before .before .before .before .before .before .before .before .put-text .ensures in
-    let senders = c .before .before .before .before .before .before .before .put-senders .ensures in
-    let last = c .before .before .put-text2 .ensures in
-    line-put (slot-room _ _ _ _ (c .before .before .before .before .before .before .before .before .before .before .before .before .before .before .before .before .before .before .before .slot-fits .ensures) (c .before .before .before .before .before .before .before .before .before .before .before .before .before .before .before .before .before .before .if1 .left))
-    (put-more (put-more (put-more number colon) senders) last)
+    let senders = c .before .before .before .before .before .before .before in
+    let colon = senders .before .before .before .before in
+    let number = colon .before .before .before .before .before in
+    let test = number .before .before in
+    let put = put-more (put-more (number .put-digits .ensures) (colon .put-text .ensures)) (senders .put-senders .ensures) in
+    line-put (slot-room _ _ _ _ (test .before .slot-fits .ensures) (test .if1 .left)) (put-more put (c .before .before .put-text2 .ensures))
 
 pub slot-line-spec : {M : Type 1} → statement M
 slot-line-spec =

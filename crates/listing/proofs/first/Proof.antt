@@ -24,11 +24,13 @@ same-length c = search needs
 
 returns : tie.Need-returns
 returns c =
-    let start = c .before .before .before .before .before .before .before .before .before .before .before .before .before in
-    let tree = c .before .before .before .before .before .before .before .before .before .before .read in
     let line = c .before .before .numbers-line in
-    headed (start .args .sheet .now) (start .pre) (tree .result) (tree .ensures) (start .args .colours) (start .args .slots) _ _ _ (start .args .out .now) _ _
-    (c .before .before .before .before .before .before .all-packets .ensures) (c .before .before .before .before .before .heaviest .ensures) (c .before .before .before .before .least-slots .ensures) (line .ensures .0) (line .ensures .1)
+    let least = c .before .before .before .before in
+    let tree = least .before .before .before .before .before .before in
+    let start = tree .before .before .before in
+    let a = start .args in
+    headed (a .sheet .now) (start .pre) (tree .read .result) (tree .read .ensures) (a .colours) (a .slots) _ _ _ (a .out .now) _ _
+    (least .before .before .all-packets .ensures) (least .before .heaviest .ensures) (least .least-slots .ensures) (line .ensures .0) (line .ensures .1)
 
 pub first-spec : {M : Type 1} → statement M
 first-spec =

@@ -36,10 +36,13 @@ same-length c = search needs
 
 returns-2 : tie.Need-returns-2
 returns-2 c =
-    let a = c .before .before .before .before .before .before .before .before .before .before .before .before .before .args in
-    let by = c .before .before .before .before .before .before .before .before .by-probe in
     let line = c .before .before .refusal-line in
-    list-refused (a .sheet .now) blank long (by .result) (by .ensures .0) (c .before .before .before .before .if2 .taken) (a .out .now) (c .before .before .before .before .before .before .before .before .before .before .if1 .left) _ _ (line .ensures .0) (line .ensures .1)
+    let test = c .before .before .before .before in
+    let plan = test .before .before .before .before in
+    let room = plan .before .before in
+    let a = room .before .before .before .args in
+    list-refused (a .sheet .now) blank long (plan .by-probe .result) (plan .by-probe .ensures .0) (test .if2 .taken) (a .out .now) (room .if1 .left) _ _
+    (line .ensures .0) (line .ensures .1)
 
 first-requires : tie.Need-first-requires
 first-requires c κs =
@@ -47,45 +50,53 @@ first-requires c κs =
     let by = c .before .before .before .before .before .by-probe in
     sheet-passed (a .sheet .now) blank long (by .result) (by .ensures .0) (c .before .if2 .left)
 
+-- from the first line: the test of the plan's outcome, the plan's making, the test of the room, and the start
+abbrev tested : tie.After-first → tie.Else2
+tested c = c .before .before
+
+abbrev made : tie.After-first → tie.After-by-probe
+made c = tested c .before .before .before .before
+
+abbrev roomy : tie.After-first → tie.Else1
+roomy c = made c .before .before
+
+abbrev start : tie.After-first → tie.Start
+start c = roomy c .before .before .before
+
 slice-aggregate-slot-lines : tie.Need-slice-aggregate-slot-lines
 slice-aggregate-slot-lines c = search needs
 
 sub-slot-lines : tie.Need-sub-slot-lines
 sub-slot-lines c =
-    let a = c .before .before .before .before .before .before .before .before .before .before .before .before .before .before .args in
-    let by = c .before .before .before .before .before .before .before .before .before .by-probe in
-    let line = c .before .before .before .first in
-    head-within (a .sheet .now) blank long (by .result) (by .ensures .0) (c .before .before .before .before .before .if2 .left) _ (by .ensures .1) (a .out .now) (c .before .before .before .before .before .before .before .before .before .before .before .if1 .left) _ _
-    (line .ensures .0) (line .ensures .1)
+    let line = c .before .before .before in
+    let by = made line .by-probe in
+    let a = start line .args in
+    head-within (a .sheet .now) blank long (by .result) (by .ensures .0) (tested line .if2 .left) _ (by .ensures .1) (a .out .now) (roomy line .if1 .left) _ _
+    (line .first .ensures .0) (line .first .ensures .1)
 
 part-slot-lines-start : tie.Need-part-slot-lines-start
-part-slot-lines-start c =
-    let a = c .before .before .before .before .before .before .before .before .before .before .before .before .before .before .args in
-    let by = c .before .before .before .before .before .before .before .before .before .by-probe in
-    let line = c .before .before .before .first in
-    head-within (a .sheet .now) blank long (by .result) (by .ensures .0) (c .before .before .before .before .before .if2 .left) _ (by .ensures .1) (a .out .now) (c .before .before .before .before .before .before .before .before .before .before .before .if1 .left) _ _
-    (line .ensures .0) (line .ensures .1)
+part-slot-lines-start c = sub-slot-lines c
 
 part-slot-lines-end : tie.Need-part-slot-lines-end
 part-slot-lines-end c = search needs
 
 slot-lines-requires : tie.Need-slot-lines-requires
 slot-lines-requires c κs =
-    let a = c .before .before .before .before .before .before .before .before .before .before .before .before .before .before .before .args in
-    let by = c .before .before .before .before .before .before .before .before .before .before .by-probe in
-    let line = c .before .before .before .before .first in
-    lines-room (a .sheet .now) blank long (by .result) (by .ensures .0) (c .before .before .before .before .before .before .if2 .left) _ (by .ensures .1) (a .out .now) (c .before .before .before .before .before .before .before .before .before .before .before .before .if1 .left) _ _
-    (line .ensures .0) (line .ensures .1)
+    let line = c .before .before .before .before in
+    let by = made line .by-probe in
+    let a = start line .args in
+    lines-room (a .sheet .now) blank long (by .result) (by .ensures .0) (tested line .if2 .left) _ (by .ensures .1) (a .out .now) (roomy line .if1 .left) _ _
+    (line .first .ensures .0) (line .first .ensures .1)
 
 add-result : tie.Need-add-result
 add-result c =
-    let a = c .before .before .before .before .before .before .before .before .before .before .before .before .before .before .before .before .before .before .args in
-    let by = c .before .before .before .before .before .before .before .before .before .before .before .before .before .by-probe in
-    let line = c .before .before .before .before .before .before .before .first in
     let more = c .before .before .slot-lines in
+    let line = c .before .before .before .before .before .before .before in
+    let by = made line .by-probe in
+    let a = start line .args in
     let end =
-    lines-end (a .sheet .now) blank long (by .result) (by .ensures .0) (c .before .before .before .before .before .before .before .before .before .if2 .left) _ (by .ensures .1) (a .out .now) (c .before .before .before .before .before .before .before .before .before .before .before .before .before .before .before .if1 .left) _ _
-    (line .ensures .0) (line .ensures .1) (more .result) (more .ensures .0)
+    lines-end (a .sheet .now) blank long (by .result) (by .ensures .0) (tested line .if2 .left) _ (by .ensures .1) (a .out .now) (roomy line .if1 .left) _ _
+    (line .first .ensures .0) (line .first .ensures .1) (more .result) (more .ensures .0)
     in
     omega (arith, end)
 
@@ -94,12 +105,12 @@ same-length-2 c = search needs
 
 returns-3 : tie.Need-returns-3
 returns-3 c =
-    let a = c .before .before .before .before .before .before .before .before .before .before .before .before .before .before .before .before .before .before .args in
-    let by = c .before .before .before .before .before .before .before .before .before .before .before .before .before .by-probe in
-    let line = c .before .before .before .before .before .before .before .first in
     let more = c .before .before .slot-lines in
-    list-planned (a .sheet .now) blank long (by .result) (by .ensures .0) (c .before .before .before .before .before .before .before .before .before .if2 .left) _ (by .ensures .1) (a .out .now) (c .before .before .before .before .before .before .before .before .before .before .before .before .before .before .before .if1 .left) _ _
-    (line .ensures .0) (line .ensures .1) _ _ (more .ensures .0) (more .ensures .1)
+    let line = c .before .before .before .before .before .before .before in
+    let by = made line .by-probe in
+    let a = start line .args in
+    list-planned (a .sheet .now) blank long (by .result) (by .ensures .0) (tested line .if2 .left) _ (by .ensures .1) (a .out .now) (roomy line .if1 .left) _ _
+    (line .first .ensures .0) (line .first .ensures .1) _ _ (more .ensures .0) (more .ensures .1)
 
 pub list-spec : {M : Type 1} → statement M
 list-spec =

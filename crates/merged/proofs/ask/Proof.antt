@@ -1,20 +1,8 @@
 -- `merged::ask` meets its contract: a refusal is the planner's, and the depth that is read in the tree is the sheet's.
-use mathlib.Core.Path.{_≡_}
-use mathlib.Core.List.{List}
-use Prim.Native.Nat.{ℕ}
-use lib.ListN.{length, replicate, length-replicate}
-use Rattle.meaning.specs.Plan.{anyMerged}
 use Rattle.merged.proofs.MergedAnswer.{ask-refused, ask-planned}
 use borrow.Author.Needs.{needs}
 use Rattle.merged.proofs.ask.Statement.{statement}
 use Rattle.merged.proofs.ask.Tie as tie
-
--- the buffer for the plan, as it is made
-abbrev blank : List ℕ
-blank = replicate anyMerged 0
-
-long : length blank ≡ anyMerged
-long = length-replicate {A = ℕ} anyMerged 0
 
 slice-aggregate-merged : tie.Need-slice-aggregate-merged
 slice-aggregate-merged c = search needs
@@ -26,7 +14,7 @@ returns : tie.Need-returns
 returns c =
     let start = c .before .before .before .before .before .before .before in
     let by = c .before .before .before .before .merged in
-    ask-refused (start .args .sheet .now) blank long (by .result) (by .ensures .0) (c .if1 .taken)
+    ask-refused (start .args .sheet .now) (by .ensures .0) (c .if1 .taken)
 
 read-requires : tie.Need-read-requires
 read-requires c κs = search needs
@@ -46,9 +34,7 @@ returns-2 c =
     let by = passed .before .before .before .before .merged in
     let start = passed .before .before .before .before .before .before .before in
     let tree = c .before .before .before .before .before .read in
-    let deep = c .before .before .depth in
-    ask-planned (start .args .sheet .now) blank long (by .result) (by .ensures .0) (passed .if1 .left) (tree .result) (tree .ensures) (deep .result) (deep .ensures) _
-    (c .before .at-most .ensures)
+    ask-planned (start .args .sheet .now) (by .ensures .0) (passed .if1 .left) (tree .ensures) (c .before .before .depth .ensures) (c .before .at-most .ensures)
 
 pub ask-spec : {M : Type 1} → statement M
 ask-spec =

@@ -20,7 +20,8 @@ faulty-requires c κs = search needs
 returns-2 : tie.Need-returns-2
 returns-2 c =
     let tested = c .before .before in
-    turns-faulty _ _ _ _ (tested .before .before .line-of .ensures) _ (tested .line-test .ensures) (tested .before .before .before .if1 .left) _ (c .faulty .ensures) (c .before .if2 .taken)
+    turns-faulty _ _ _ _ (tested .before .before .line-of .ensures) _ (tested .line-test .ensures) (tested .before .before .before .if1 .left)
+    _ (c .faulty .ensures) (c .before .if2 .taken)
 
 table-after-requires : tie.Need-table-after-requires
 table-after-requires c κs = search needs

@@ -17,7 +17,10 @@ enum-known-line c = search needs
 
 cast-next : tie.Need-cast-next
 unfolding verticesSaid
-cast-next c = let few : verticesSaid (c .before .before .before .before .args .line) ≤ 63 = c .before .before .before .before .pre in omega (arith, rw (c .before .line .given .1) at few)
+cast-next c =
+    let start = c .before .before .before .before in
+    let few : verticesSaid (start .args .line) ≤ 63 = start .pre in
+    omega (arith, rw (c .before .line .given .1) at few)
 
 returns : tie.Need-returns
 unfolding taken

@@ -6,9 +6,6 @@ use Rattle.laws.proofs.Lists.{Becoming, becoming-start, becoming-next, becoming
 use borrow.Author.Needs.{needs}
 use Rattle.plan.proofs.colours_by_level.Statement.{statement}
 use Rattle.plan.proofs.colours_by_level.Tie as tie
-use Rattle.plan.proofs.colours_by_level.Reads as reads
-use Rattle.plan.proofs.colours_by_level.Lts as lts
-use Rattle.laws.proofs.number_at.Reads as number-at-reads
 
 abbrev Inv-loop : tie.InvT-loop
 Inv-loop levels colours own₀ v₀ own v = Becoming 65 v (λ u. getD colours (getD levels u 0) 0) own₀ own

@@ -3,20 +3,15 @@ use mathlib.Core.Path.{_≡_, sym, ap, _∙_, subst₂}
 use mathlib.Core.List.{List}
 use Prim.Native.Nat.{ℕ, _-_}
 use lib.ListN.{length, take, drop, length-drop, length-set}
-use Rattle.meaning.specs.Words.{byNode}
-use Rattle.meaning.specs.Rounds.{goesIn, rounds}
+use Rattle.meaning.specs.Rounds.{rounds}
 use Rattle.plan.specs.ColourTurn.{Ready}
-use Rattle.plan.specs.TurnByTurn.{wayBy, from, Going, heldBy}
+use Rattle.plan.specs.TurnByTurn.{goesBy, wayBy, from, Going, heldBy}
 use Rattle.plan.proofs.TurnByTurn.{part-from}
 use Rattle.plan.proofs.Filling.{filled, slots-most}
 use native.Mathlib.Omega.{arith}
 use borrow.Author.Needs.{needs}
 use Rattle.plan.proofs.fill.Statement.{statement}
 use Rattle.plan.proofs.fill.Tie as tie
-use Rattle.plan.proofs.fill.Reads as reads
-use Rattle.plan.proofs.fill.Lts as lts
-use Rattle.plan.proofs.run.Reads as run-reads
-use Rattle.sending.proofs.first_held.Reads as first-held-reads
 
 first-held-requires : tie.Need-first-held-requires
 first-held-requires c κs = search needs
@@ -32,13 +27,13 @@ part-run-end c = search needs
 
 run-requires : tie.Need-run-requires
 run-requires c κs =
-    let start = c .before .before .before .before .before .before .before in
+    let start = c .before .before .before .before .before in
     let a = start .args in
     let room : length (a .buf .now) - 2 ≡ length (take (length (a .buf .now) - 2) (drop 2 (a .buf .now))) =
     sym (length-drop 2 (a .buf .now)) ∙ ap length (sym (part-from (a .buf .now) 2))
     in
-    let first = c .before .before .before .before .before .first-held in
-    subst₂ (λ (h : List ℕ) (r : ℕ). Ready (a .p) (goesIn (a .mode) (byNode (a .t3))) h r) (sym (first .ensures)) room (start .pre .ready)
+    let first = c .before .before .before .first-held in
+    subst₂ (λ (h : List ℕ) (r : ℕ). Ready (a .way .probes) (goesBy (a .way)) h r) (sym (first .ensures)) room (start .pre .ready)
 
 cast-buf : tie.Need-cast-buf
 cast-buf c = search needs
@@ -51,7 +46,7 @@ cast-buf-2 c = search needs
 
 slice-write-buf-2 : tie.Need-slice-write-buf-2
 slice-write-buf-2 c =
-    let start = c .before .before .before .before .before .before .before .before .before .before in
+    let start = c .before .before .before .before .before .before .before .before in
     simp length-set (omega (arith, start .pre .two, c .before .buf .given))
 
 add-end : tie.Need-add-end
@@ -62,18 +57,20 @@ same-length c = search needs
 
 returns : tie.Need-returns
 returns c =
-    let start = c .before .before .before .before .before .before .before .before .before .before in
+    let start = c .before .before .before .before .before .before .before .before in
     let a = start .args in
+    let by = a .way in
+    let way = wayBy by (a .t3) in
     let run = c .before .before .run in
-    let way = wayBy (a .mode) (a .p) (a .t3) (a .t5) (a .t6) (a .m) in
-    let first = heldBy (a .mode) (a .p) (a .packets) in
-    let last : List ℕ = run .last .1 .1 .1 .1 .1 .1 .1 .0 in
-    let part : List ℕ = run .last .1 .1 .1 .1 .1 .1 .1 .1 .0 in
-    let most = slots-most (a .mode) (a .p) (a .t3) (a .t5) (a .t6) (a .m) first (length (a .buf .now) - 2) (a .sendings) (start .pre .ready) in
-    filled (a .p) (way .parent) (rounds way (a .sendings) (from first)) last (a .buf .now) part (run .result .bytes) (run .result .slots) (start .pre .two)
+    let made = run .result in
+    let first = heldBy (by .mode) (by .probes) (a .packets) in
+    let last : List ℕ = run .last .1 .1 .1 .0 in
+    let part : List ℕ = run .last .1 .1 .1 .1 .0 in
+    let most = slots-most by (a .t3) first (length (a .buf .now) - 2) (a .sendings) (start .pre .ready) in
+    filled (by .probes) (goesBy by) (rounds way (a .sendings) (from first)) last (a .buf .now) part (made .bytes) (made .slots) (start .pre .two)
     (omega (arith, start .pre .few, most))
-    (subst₂ (λ (lent held : List ℕ). Going (a .p) (way .parent) (rounds way (a .sendings) (from held)) last lent part (run .result .bytes) (run .result .slots))
-    (part-from (a .buf .now) 2) (c .before .before .before .before .before .before .before .before .first-held .ensures) (run .ensures))
+    (subst₂ (λ (lent held : List ℕ). Going (by .probes) (goesBy by) (rounds way (a .sendings) (from held)) last lent part (made .bytes) (made .slots))
+    (part-from (a .buf .now) 2) (c .before .before .before .before .before .before .first-held .ensures) (run .ensures))
 
 pub fill-spec : {M : Type 1} → statement M
 fill-spec =

@@ -5,17 +5,12 @@ use Prim.Native.Nat.{ℕ, _≤_}
 use lib.ListN.{length}
 use Rattle.meaning.specs.Plan.{planBytes, front}
 use Rattle.meaning.specs.Answer.{accepted}
-use Rattle.plan.specs.TurnByTurn.{heldBy, slotsBy, Filled}
+use Rattle.plan.specs.TurnByTurn.{told, heldBy, slotsBy, Filled}
 use Rattle.plan.specs.Answered.{Finished}
 use native.Mathlib.Omega.{arith}
 use borrow.Author.Needs.{needs}
 use Rattle.plan.proofs.finish.Statement.{statement}
 use Rattle.plan.proofs.finish.Tie as tie
-use Rattle.plan.proofs.finish.Reads as reads
-use Rattle.plan.proofs.finish.Lts as lts
-use Rattle.meaning.proofs.refused_plan.Reads as refused-plan-reads
-use Rattle.plan.proofs.fill.Reads as fill-reads
-use Rattle.plan.proofs.sendings_in.Reads as sendings-in-reads
 
 -- a plan that is written is answered for
 finished : {plan plan′ : List (List ℕ)} {m bytes slots : ℕ} {buffer buffer′ : List ℕ} → plan ≡ plan′ → Filled plan buffer buffer′ bytes slots
@@ -46,8 +41,8 @@ returns c =
     let filled = c .before .before .before .before .fill .ensures in
     absurd (omega (arith, filled .few, filled .made, c .before .if1 .taken))
 
-cast-t18 : tie.Need-cast-t18
-cast-t18 c = search needs
+cast-t19 : tie.Need-cast-t19
+cast-t19 c = search needs
 
 same-length-2 : tie.Need-same-length-2
 same-length-2 c = search needs
@@ -58,8 +53,8 @@ returns-2 c =
     let a = fill .before .before .before .before .before .before .args in
     let tree = a .tree in
     let held = heldBy (a .mode) (tree .probes) (tree .packets) in
-    finished (ap (λ (n : ℕ). slotsBy (a .mode) (tree .probes) (tree .parents) (a .table) (a .own) (a .m) n held) (fill .before .before .sendings-in .ensures))
-    (fill .fill .ensures)
+    let by = told (a .mode) (tree .probes) (tree .parents) (a .own) (a .m) in
+    finished (ap (λ (n : ℕ). slotsBy by (a .table) n held) (fill .before .before .sendings-in .ensures)) (fill .fill .ensures)
 
 pub finish-spec : {M : Type 1} → statement M
 finish-spec =
@@ -70,6 +65,6 @@ finish-spec =
     refused-plan-requires
     same-length
     returns
-    cast-t18
+    cast-t19
     same-length-2
     returns-2)

@@ -6,8 +6,6 @@ use Rattle.plan.proofs.Preparing.{room-short, room-enough}
 use borrow.Author.Needs.{needs}
 use Rattle.plan.proofs.room_test.Statement.{statement}
 use Rattle.plan.proofs.room_test.Tie as tie
-use Rattle.plan.proofs.room_test.Reads as reads
-use Rattle.plan.proofs.room_test.Lts as lts
 
 returns : tie.Need-returns
 returns c = sym (then-stays (c .before .before .args .outcome) _ (ne-eqb (c .before .before .args .outcome .number) 0 (c .if1 .taken)))

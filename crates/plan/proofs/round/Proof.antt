@@ -5,20 +5,16 @@ use lib.ListN.{length, take, drop, length-drop}
 use Rattle.meaning.specs.Words.{byNode}
 use Rattle.meaning.specs.Rounds.{Progress, goesIn}
 use Rattle.plan.specs.ColourTurn.{Ready}
-use Rattle.plan.specs.TurnByTurn.{Going}
+use Rattle.plan.specs.TurnByTurn.{told, Going}
 use Rattle.plan.proofs.TurnByTurn.{turns, turns-all, going-start, going-next, going-long, part-from}
 use native.Mathlib.Omega.{arith}
 use borrow.Author.Needs.{needs}
 use Rattle.plan.proofs.round.Statement.{statement}
 use Rattle.plan.proofs.round.Tie as tie
-use Rattle.plan.proofs.round.Reads as reads
-use Rattle.plan.proofs.round.Lts as lts
-use Rattle.plan.proofs.slots_in.Reads as slots-in-reads
-use Rattle.plan.proofs.turn.Reads as turn-reads
 
 abbrev Inv-loop : tie.InvT-loop
 Inv-loop mode p parents table own m held₀ rest₀ at₀ slots₀ s₀ held rest at slots s =
-    (s ≤ m) × Going p (goesIn mode (byNode parents)) (turns mode p parents table own m s held₀) held rest₀ rest at slots
+    (s ≤ m) × Going p (goesIn mode (byNode parents)) (turns (told mode p parents own m) table s held₀) held rest₀ rest at slots
 
 abbrev μ-loop : tie.MeasureT-loop
 μ-loop mode p parents table own m held₀ rest₀ at₀ slots₀ s₀ held rest at slots s = m - s
@@ -26,7 +22,8 @@ abbrev μ-loop : tie.MeasureT-loop
 loop-holds : tie.Need-loop-holds Inv-loop μ-loop
 loop-holds c =
     let a = c .before .args in
-    (search needs, going-start (a .mode) (a .p) (a .parents .now) (a .table .now) (a .own .now) (a .m) (a .held .now) (a .rest .now) (c .before .pre))
+    let by = told (a .mode) (a .p) (a .parents .now) (a .own .now) (a .m) in
+    (search needs, going-start by (a .table .now) (a .held .now) (a .rest .now) (c .before .pre))
 
 add-t14 : tie.Need-add-t14 Inv-loop μ-loop
 add-t14 c = search needs
@@ -57,7 +54,7 @@ add-at : tie.Need-add-at Inv-loop μ-loop
 add-at c =
     let turn = c .before .before in
     let loop = turn .before .before .before .before in
-    let next = going-next _ _ _ _ _ _ _ _ _ _ _ _ _ (loop .loop .inv .1) _ _ _ (turn .turn .ensures) _ refl in
+    let next = going-next _ _ _ _ _ _ _ _ _ (loop .loop .inv .1) _ _ _ (turn .turn .ensures) _ refl in
     omega (arith, next .within, loop .before .before .good .1 .1 .1 .1 .1 .1 .1 .0 .0)
 
 slots-in-requires : tie.Need-slots-in-requires Inv-loop μ-loop
@@ -67,7 +64,7 @@ add-slots : tie.Need-add-slots Inv-loop μ-loop
 add-slots c =
     let turn = c .before .before .before in
     let loop = turn .before .before .before .before in
-    let next = going-next _ _ _ _ _ _ _ _ _ _ _ _ _ (loop .loop .inv .1) _ _ _ (turn .turn .ensures) _ (c .slots-in .ensures) in
+    let next = going-next _ _ _ _ _ _ _ _ _ (loop .loop .inv .1) _ _ _ (turn .turn .ensures) _ (c .slots-in .ensures) in
     omega (arith, next .within, next .fewer, loop .before .before .good .1 .1 .1 .1 .1 .1 .1 .0 .0)
 
 add-s : tie.Need-add-s Inv-loop μ-loop
@@ -80,7 +77,7 @@ loop-again : tie.Need-loop-again Inv-loop μ-loop
 loop-again c =
     let turn = c .before .before .before in
     let loop = turn .before .before .before .before in
-    (search needs, going-next _ _ _ _ _ _ _ _ _ _ _ _ _ (loop .loop .inv .1) _ _ _ (turn .turn .ensures) _ (c .slots-in .ensures))
+    (search needs, going-next _ _ _ _ _ _ _ _ _ (loop .loop .inv .1) _ _ _ (turn .turn .ensures) _ (c .slots-in .ensures))
 
 same-length : tie.Need-same-length Inv-loop μ-loop
 same-length c = going-long (c .before .loop .inv .1)
@@ -90,9 +87,9 @@ returns c =
     let a = c .before .before .before .args in
     let l = c .before .loop in
     let all : l .s ≡ a .m = omega (arith, l .inv .0) in
+    let by = told (a .mode) (a .p) (a .parents .now) (a .own .now) (a .m) in
     subst (λ (now : Progress). Going (a .p) (goesIn (a .mode) (byNode (a .parents .now))) now (l .held) (a .rest .now) (l .rest) (l .at) (l .slots))
-    (ap (λ (k : ℕ). turns (a .mode) (a .p) (a .parents .now) (a .table .now) (a .own .now) (a .m) k (a .held .now)) all
-    ∙ turns-all (a .mode) (a .p) (a .parents .now) (a .table .now) (a .own .now) (a .m) (a .held .now))
+    (ap (λ (k : ℕ). turns by (a .table .now) k (a .held .now)) all ∙ turns-all by (a .table .now) (a .held .now))
     (l .inv .1)
 
 pub round-spec : {M : Type 1} → statement M

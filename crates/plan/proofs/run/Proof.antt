@@ -1,44 +1,36 @@
 -- `plan::run` meets its contract: r rounds are made, and while anything is outside another one follows.
 use mathlib.Core.Path.{_≡_, sym, ap, _∙_, subst}
-use mathlib.Core.Bool.{Bool, true, false, not}
+use mathlib.Core.Bool.{Bool, true, false}
 use mathlib.Core.List.{List}
 use Prim.Native.Nat.{ℕ, _+_, _-_, _≤_}
 use borrow.Author.Tests.{not-true, not-false}
 use lib.ListN.{length, take, drop, length-drop}
-use Rattle.meaning.specs.Words.{byNode}
-use Rattle.meaning.specs.Rounds.{Progress, goesIn, outside, rounds}
+use Rattle.meaning.specs.Rounds.{Progress, outside, rounds}
 use Rattle.laws.specs.Few.{atMost63}
 use Rattle.laws.proofs.Few.{as-many}
 use Rattle.plan.specs.ColourTurn.{Ready}
-use Rattle.plan.specs.TurnByTurn.{wayBy, from, Going}
+use Rattle.plan.specs.TurnByTurn.{goesBy, wayBy, from, Going}
 use Rattle.plan.proofs.TurnByTurn.{rounds-start, rounds-stop, going-round, going-long, part-from}
 use native.Mathlib.Omega.{arith}
 use borrow.Author.Needs.{needs}
 use Rattle.plan.proofs.run.Statement.{statement}
 use Rattle.plan.proofs.run.Tie as tie
-use Rattle.plan.proofs.run.Reads as reads
-use Rattle.plan.proofs.run.Lts as lts
-use Rattle.slot.proofs.any_outside.Reads as any-outside-reads
-use Rattle.plan.proofs.round.Reads as round-reads
 
 -- at most 63 probes: `any_outside` looks at all of them
 within-yard : (p : ℕ) (held : List ℕ) (r : Bool) → p ≤ 63 → r ≡ outside (atMost63 p) held → r ≡ outside p held
 within-yard p held r small e = e ∙ ap (λ (n : ℕ). outside n held) (as-many p small)
 
-still-outside : (p : ℕ) (held : List ℕ) (r : Bool) → p ≤ 63 → r ≡ outside (atMost63 p) held → not r ≡ false → outside p held ≡ true
-still-outside p held r small e n = sym (within-yard p held r small e) ∙ not-false r n
-
 abbrev Inv-loop : tie.InvT-loop
-Inv-loop mode p parents table own m sendings held₀ rest₀ at₀ slots₀ r₀ held rest at slots r =
-    (r ≤ sendings) × Going p (goesIn mode (byNode parents)) (rounds (wayBy mode p parents table own m) r (from held₀)) held rest₀ rest at slots
+Inv-loop table sendings held₀ rest₀ way mode p m at₀ slots₀ r₀ held rest at slots r =
+    (r ≤ sendings) × Going (way .probes) (goesBy way) (rounds (wayBy way table) r (from held₀)) held rest₀ rest at slots
 
 abbrev μ-loop : tie.MeasureT-loop
-μ-loop mode p parents table own m sendings held₀ rest₀ at₀ slots₀ r₀ held rest at slots r = sendings - r
+μ-loop table sendings held₀ rest₀ way mode p m at₀ slots₀ r₀ held rest at slots r = sendings - r
 
 loop-holds : tie.Need-loop-holds Inv-loop μ-loop
 loop-holds c =
     let a = c .before .args in
-    (search needs, rounds-start (a .mode) (a .p) (a .parents .now) (a .table .now) (a .own .now) (a .m) (a .held .now) (a .rest .now) (c .before .pre))
+    (search needs, rounds-start (a .t1) (a .table .now) (a .held .now) (a .rest .now) (c .before .pre))
 
 any-outside-requires : tie.Need-any-outside-requires Inv-loop μ-loop
 any-outside-requires c κs = search needs
@@ -48,23 +40,26 @@ same-length c = going-long (c .before .before .before .before .loop .inv .1)
 
 returns : tie.Need-returns Inv-loop μ-loop
 returns c =
-    let a = c .before .before .before .before .before .before .args in
-    let l = c .before .before .before .before .loop in
-    let home : outside (a .p) (rounds (wayBy (a .mode) (a .p) (a .parents .now) (a .table .now) (a .own .now) (a .m)) (l .r) (from (a .held .now)) .held) ≡ false =
-    subst (λ (h : List ℕ). outside (a .p) h ≡ false) (l .inv .1 .holding)
-    (sym (within-yard (a .p) (l .held) _ (c .before .before .before .before .before .before .pre .small) (c .before .any-outside .ensures)) ∙ not-true (c .before .any-outside .result) (c .if1 .taken))
+    let loop = c .before .before .before .before in
+    let start = loop .before .before in
+    let a = start .args in
+    let way = a .t1 in
+    let l = loop .loop in
+    let none = within-yard (way .probes) (l .held) _ (start .pre .small) (c .before .any-outside .ensures) in
+    let home : outside (way .probes) (rounds (wayBy way (a .table .now)) (l .r) (from (a .held .now)) .held) ≡ false =
+    subst (λ (h : List ℕ). outside (way .probes) h ≡ false) (l .inv .1 .holding) (sym none ∙ not-true (c .before .any-outside .result) (c .if1 .taken))
     in
-    subst (λ (now : Progress). Going (a .p) (goesIn (a .mode) (byNode (a .parents .now))) now (l .held) (a .rest .now) (l .rest) (l .at) (l .slots))
-    (sym (rounds-stop (a .mode) (a .p) (a .parents .now) (a .table .now) (a .own .now) (a .m) (l .r) (a .sendings) (a .held .now) (l .inv .0) home)) (l .inv .1)
+    subst (λ (now : Progress). Going (way .probes) (goesBy way) now (l .held) (a .rest .now) (l .rest) (l .at) (l .slots))
+    (sym (rounds-stop way (a .table .now) (l .r) (a .sendings) (a .held .now) (l .inv .0) home)) (l .inv .1)
 
 sub-round : tie.Need-sub-round Inv-loop μ-loop
 sub-round c =
-    let l = c .before .before .before .before .before .loop in
+    let l = c .before .before .before .before .before .before .before .before .loop in
     omega (arith, going-long (l .inv .1), l .inv .1 .within)
 
 part-round-start : tie.Need-part-round-start Inv-loop μ-loop
 part-round-start c =
-    let l = c .before .before .before .before .before .loop in
+    let l = c .before .before .before .before .before .before .before .before .loop in
     omega (arith, going-long (l .inv .1), l .inv .1 .within)
 
 part-round-end : tie.Need-part-round-end Inv-loop μ-loop
@@ -72,27 +67,37 @@ part-round-end c = search needs
 
 round-requires : tie.Need-round-requires Inv-loop μ-loop
 round-requires c κs =
-    let a = c .before .before .before .before .before .before .before .before .args in
-    let l = c .before .before .before .before .before .before .loop in
+    let loop = c .before .before .before .before .before .before .before .before .before in
+    let a = loop .before .before .args in
+    let l = loop .loop in
     let room : length (a .rest .now) - l .at ≡ length (take (length (l .rest) - l .at) (drop (l .at) (l .rest))) =
     ap (λ (n : ℕ). n - l .at) (sym (going-long (l .inv .1))) ∙ sym (length-drop (l .at) (l .rest)) ∙ ap length (sym (part-from (l .rest) (l .at)))
     in
-    subst (λ (r : ℕ). Ready (a .p) (goesIn (a .mode) (byNode (a .parents .now))) (l .held) r) room (l .inv .1 .ready)
+    subst (λ (r : ℕ). Ready (a .t1 .probes) (goesBy (a .t1)) (l .held) r) room (l .inv .1 .ready)
+
+-- where a round follows, something is outside
+still-outside : (c : tie.Else1 Inv-loop μ-loop)
+    → let loop = c .before .before .before .before in
+    outside (loop .before .before .args .t1 .probes) (loop .loop .held) ≡ true
+still-outside c =
+    let loop = c .before .before .before .before in
+    let start = loop .before .before in
+    let looked = c .before .any-outside in
+    sym (within-yard (start .args .t1 .probes) (loop .loop .held) _ (start .pre .small) (looked .ensures)) ∙ not-false (looked .result) (c .if1 .left)
 
 -- what a round adds ends within the buffer, and a buffer's length is a number of the machine's
 round-adds : (c : tie.After-round Inv-loop μ-loop)
-    → let loop = c .before .before .before .before .before .before .before .loop in
-    (loop .at + c .round .result .bytes ≤ 18446744073709551615) × (loop .slots + c .round .result .slots ≤ 18446744073709551615)
+    → let l = c .before .before .before .before .before .before .before .before .before .before .loop in
+    (l .at + c .round .result .bytes ≤ 18446744073709551615) × (l .slots + c .round .result .slots ≤ 18446744073709551615)
 round-adds c =
-    let loop = c .before .before .before .before .before .before .before in
+    let left = c .before .before .before .before .before .before in
+    let loop = left .before .before .before .before in
     let start = loop .before .before in
     let a = start .args in
-    let out = still-outside (a .p) (loop .loop .held) _ (start .pre .small) (c .before .before .before .before .any-outside .ensures) (c .before .before .before .if1 .left) in
     let next =
-    going-round (a .mode) (a .p) (a .parents .now) (a .table .now) (a .own .now) (a .m) (loop .loop .r) (a .held .now) _ _ _ _ _ (loop .loop .inv .1) out _ _ _ _
-    (c .round .ensures)
+    going-round (a .t1) (a .table .now) (loop .loop .r) (a .held .now) _ _ _ _ _ (loop .loop .inv .1) (still-outside left) _ _ _ _ (c .round .ensures)
     in
-    let most = start .good .1 .1 .1 .1 .1 .1 .1 .1 .0 .0 in
+    let most = start .good .1 .1 .1 .1 .0 .0 in
     (omega (arith, next .within, most), omega (arith, next .within, next .fewer, most))
 
 add-at : tie.Need-add-at Inv-loop μ-loop
@@ -109,15 +114,12 @@ loop-less c = search needs
 
 loop-again : tie.Need-loop-again Inv-loop μ-loop
 loop-again c =
-    let at = c .before .before .before .before in
-    let loop = at .before .before .before .before .before .before .before in
-    let a = loop .before .before .args in
-    let out =
-    still-outside (a .p) (loop .loop .held) _ (loop .before .before .pre .small) (at .before .before .before .before .any-outside .ensures) (at .before .before .before .if1 .left)
-    in (
+    let round = c .before .before .before .before in
+    let left = round .before .before .before .before .before .before in
+    let loop = left .before .before .before .before in
+    let a = loop .before .before .args in (
       search needs,
-      going-round (a .mode) (a .p) (a .parents .now) (a .table .now) (a .own .now) (a .m) (loop .loop .r) (a .held .now) _ _ _ _ _ (loop .loop .inv .1) out _ _ _ _
-          (at .round .ensures),
+      going-round (a .t1) (a .table .now) (loop .loop .r) (a .held .now) _ _ _ _ _ (loop .loop .inv .1) (still-outside left) _ _ _ _ (round .round .ensures),
     )
 
 same-length-2 : tie.Need-same-length-2 Inv-loop μ-loop
@@ -126,11 +128,11 @@ same-length-2 c = going-long (c .before .loop .inv .1)
 returns-2 : tie.Need-returns-2 Inv-loop μ-loop
 returns-2 c =
     let a = c .before .before .before .args in
+    let way = a .t1 in
     let l = c .before .loop in
     let all : l .r ≡ a .sendings = omega (arith, l .inv .0) in
-    let way = wayBy (a .mode) (a .p) (a .parents .now) (a .table .now) (a .own .now) (a .m) in
-    subst (λ (n : ℕ). Going (a .p) (way .parent) (rounds way n (from (a .held .now))) (l .held) (a .rest .now) (l .rest) (l .at) (l .slots))
-    all (l .inv .1)
+    let after : ℕ → Progress = λ n. rounds (wayBy way (a .table .now)) n (from (a .held .now)) in
+    subst (λ (n : ℕ). Going (way .probes) (goesBy way) (after n) (l .held) (a .rest .now) (l .rest) (l .at) (l .slots)) all (l .inv .1)
 
 pub run-spec : {M : Type 1} → statement M
 run-spec =

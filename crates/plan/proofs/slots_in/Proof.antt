@@ -4,8 +4,6 @@ use mathlib.Core.Bool.{Bool, cond}
 use borrow.Author.Tests.{eq-eqb, ne-eqb}
 use Rattle.plan.proofs.slots_in.Statement.{statement}
 use Rattle.plan.proofs.slots_in.Tie as tie
-use Rattle.plan.proofs.slots_in.Reads as reads
-use Rattle.plan.proofs.slots_in.Lts as lts
 
 returns : tie.Need-returns
 returns c = sym (ap (λ (b : Bool). cond b 0 1) (eq-eqb (c .before .args .bytes) 0 (c .if1 .taken)))

@@ -1,7 +1,6 @@
 -- `sending::readings` meets its contract: before place i each probe has its reading, and no other node has one.
 use mathlib.Core.Path.{refl, ap, _∙_}
 use mathlib.Core.Bool.{cond, _&&_}
-use mathlib.Core.List.{List}
 use Prim.Native.Nat.{ℕ, _+_, _-_}
 use lib.Dec.{leb}
 use Rattle.meaning.specs.Words.{tab, places}

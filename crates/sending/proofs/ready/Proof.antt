@@ -12,10 +12,6 @@ use Rattle.laws.proofs.Lists.{Becoming, becoming-start, becoming-next, becoming
 use borrow.Author.Needs.{needs}
 use Rattle.sending.proofs.ready.Statement.{statement}
 use Rattle.sending.proofs.ready.Tie as tie
-use Rattle.sending.proofs.ready.Reads as reads
-use Rattle.sending.proofs.ready.Lts as lts
-use Rattle.sending.proofs.one_if.Reads as one-if-reads
-use Rattle.sending.proofs.waiting.Reads as waiting-reads
 
 abbrev Inv-loop : tie.InvT-loop
 Inv-loop p parents held waits may₀ i₀ may i = Becoming 65 i (λ v. cond (holds held v && not (getD waits v false)) 1 0) may₀ may
@@ -69,7 +65,8 @@ who-waits p parent held flags is =
 returns : tie.Need-returns Inv-loop μ-loop
 returns c =
     let a = c .before .before .before .args in
-    becoming-whole 65 _ _ _ (c .before .loop .inv) (c .loop-test .left) ∙ who-waits (atMost63 (a .p)) (byNode (a .parents .now)) (a .held .now) _ (c .before .before .waiting .ensures)
+    becoming-whole 65 _ _ _ (c .before .loop .inv) (c .loop-test .left)
+    ∙ who-waits (atMost63 (a .p)) (byNode (a .parents .now)) (a .held .now) _ (c .before .before .waiting .ensures)
 
 pub ready-spec : {M : Type 1} → statement M
 ready-spec =

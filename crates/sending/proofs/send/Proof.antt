@@ -11,9 +11,6 @@ use Rattle.sending.proofs.ToGateway.{to-gateway}
 use borrow.Author.Needs.{needs}
 use Rattle.sending.proofs.send.Statement.{statement}
 use Rattle.sending.proofs.send.Tie as tie
-use Rattle.sending.proofs.send.Reads as reads
-use Rattle.sending.proofs.send.Lts as lts
-use Rattle.slot.proofs.move_packets.Reads as move-packets-reads
 
 -- what is moved depends on the mode alone
 by-mode : (mode its : Mode) (parent : ℕ → ℕ) (slot held : List ℕ) → mode ≡ its → movedWithin (goesIn its parent) slot held ≡ movedWithin (goesIn mode parent) slot held

@@ -9,9 +9,6 @@ use Rattle.sending.proofs.WaitsFor.{parent-waits, nobody-waits}
 use borrow.Author.Needs.{needs}
 use Rattle.sending.proofs.waiting.Statement.{statement}
 use Rattle.sending.proofs.waiting.Tie as tie
-use Rattle.sending.proofs.waiting.Reads as reads
-use Rattle.sending.proofs.waiting.Lts as lts
-use Rattle.laws.proofs.at_most_63.Reads as at-most-63-reads
 
 abbrev Inv-loop : tie.InvT-loop
 Inv-loop p parents held probes flags₀ k₀ flags k = (k ≤ probes) × (flags ≡ tab places (waits k (byNode parents) held))

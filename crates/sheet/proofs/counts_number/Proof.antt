@@ -33,7 +33,8 @@ few c h = omega (arith, c .number-at .ensures)
 
 returns-3 : tie.Need-returns-3
 returns-3 c =
-    no-pair-count _ (c .before .before .before .before .if1 .left) (few (c .before .before .before) (c .before .before .if2 .left)) (omega (arith, c .before .pair-count-at .ensures))
+    let test = c .before .before in
+    no-pair-count _ (test .before .before .if1 .left) (few (test .before) (test .if2 .left)) (omega (arith, c .before .pair-count-at .ensures))
 
 pair-count-requires : tie.Need-pair-count-requires
 pair-count-requires c κs = search needs
@@ -47,17 +48,22 @@ add-if4 c = search needs
 mul-if4 : tie.Need-mul-if4
 mul-if4 c = omega (arith, pairs-of-few (c .before .before .before .before .number-at .result) (omega arith))
 
-counted : (c : tie.Else3) → pairCountAt (c .before .before .before .before .before .before .args .sheet .now) + 2 ≤ length (c .before .before .before .before .before .before .args .sheet .now)
+counted : (c : tie.Else3)
+    → let s = c .before .before .before .before .before .before .args .sheet .now in
+    pairCountAt s + 2 ≤ length s
 counted c = omega (arith, c .before .pair-count-at .ensures)
 
 -- as many pairs as there can be, of the number read and of the sheet's
-most-pairs : (c : tie.After-number-at) → c .number-at .result * (c .number-at .result + 1) / 2 ≡ probeCount (c .before .before .before .args .sheet .now) * (probeCount (c .before .before .before .args .sheet .now) + 1) / 2
+most-pairs : (c : tie.After-number-at)
+    → let p = probeCount (c .before .before .before .args .sheet .now) in
+    c .number-at .result * (c .number-at .result + 1) / 2 ≡ p * (p + 1) / 2
 most-pairs c = ap (λ (p : ℕ). p * (p + 1) / 2) (c .number-at .ensures)
 
 returns-4 : tie.Need-returns-4
 returns-4 c =
-    many-pairs _ (c .before .before .before .before .before .before .if1 .left) (few (c .before .before .before .before .before) (c .before .before .before .before .if2 .left)) (counted (c .before .before))
-    (omega (arith, c .before .pair-count .ensures, most-pairs (c .before .before .before .before .before)))
+    let test = c .before .before .before .before in
+    many-pairs _ (test .before .before .if1 .left) (few (test .before) (test .if2 .left)) (counted (c .before .before))
+    (omega (arith, c .before .pair-count .ensures, most-pairs (test .before)))
 
 add-whole : tie.Need-add-whole
 add-whole c = search needs
@@ -81,10 +87,14 @@ returns-5 : tie.Need-returns-5
 returns-5 c = too-short _ (possible (c .before)) (omega (arith, c .before .before .pair-count .ensures, c .before .before .before .before .pair-count-at .ensures))
 
 returns-6 : tie.Need-returns-6
-returns-6 c = too-long _ (possible (c .before .before)) (omega (arith, c .before .before .before .pair-count .ensures, c .before .before .before .before .before .pair-count-at .ensures))
+returns-6 c =
+    let pairs = c .before .before .before in
+    too-long _ (possible (c .before .before)) (omega (arith, pairs .pair-count .ensures, pairs .before .before .pair-count-at .ensures))
 
 returns-7 : tie.Need-returns-7
-returns-7 c = counts-passed _ (possible (c .before .before)) (omega (arith, c .before .before .before .pair-count .ensures, c .before .before .before .before .before .pair-count-at .ensures))
+returns-7 c =
+    let pairs = c .before .before .before in
+    counts-passed _ (possible (c .before .before)) (omega (arith, pairs .pair-count .ensures, pairs .before .before .pair-count-at .ensures))
 
 pub counts-number-spec : {M : Type 1} → statement M
 counts-number-spec =

@@ -30,7 +30,9 @@ add-result : tie.Need-add-result
 add-result c = search needs
 
 returns : tie.Need-returns
-returns c = pair-count-read (c .before .before .before .before .args .sheet .now) _ _ _ (c .before .before .pair-count-at .ensures) (c .before .number-at .ensures) (c .number-at2 .ensures)
+returns c =
+    pair-count-read (c .before .before .before .before .args .sheet .now) _ _ _ (c .before .before .pair-count-at .ensures)
+    (c .before .number-at .ensures) (c .number-at2 .ensures)
 
 pub pair-count-spec : {M : Type 1} → statement M
 pair-count-spec =

@@ -37,8 +37,8 @@ returns c =
 
 returns-2 : tie.Need-returns-2
 returns-2 c =
-    first-passed _ _ _ _ _ _ (c .before .before .before .before .number-at .ensures) (c .before .before .before .number-at2 .ensures) (c .before .before .pair-wrong .ensures) (c .before .if1 .left)
-    (c .if2 .taken)
+    first-passed _ _ _ _ _ _ (c .before .before .before .before .number-at .ensures) (c .before .before .before .number-at2 .ensures)
+    (c .before .before .pair-wrong .ensures) (c .before .if1 .left) (c .if2 .taken)
 
 sub-before : tie.Need-sub-before
 sub-before c = search needs

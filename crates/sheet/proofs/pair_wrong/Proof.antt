@@ -6,8 +6,6 @@ use lib.Dec.{eqb, leb}
 use borrow.Author.Tests.{eq-eqb, ne-eqb}
 use Rattle.sheet.proofs.pair_wrong.Statement.{statement}
 use Rattle.sheet.proofs.pair_wrong.Tie as tie
-use Rattle.sheet.proofs.pair_wrong.Reads as reads
-use Rattle.sheet.proofs.pair_wrong.Lts as lts
 
 joined : (c : tie.Joined1) → c .if1 .if2 ≡ (eqb (c .before .args .a) 0 || leb (c .before .args .b) (c .before .args .a))
 joined c =

@@ -6,8 +6,6 @@ use lib.Dec.{eqb, ltb}
 use borrow.Author.Tests.{eq-eqb, ne-eqb}
 use Rattle.sheet.proofs.parent_wrong.Statement.{statement}
 use Rattle.sheet.proofs.parent_wrong.Tie as tie
-use Rattle.sheet.proofs.parent_wrong.Reads as reads
-use Rattle.sheet.proofs.parent_wrong.Lts as lts
 
 joined : (c : tie.Joined1) → c .if1 .if2 ≡ (eqb (c .before .args .parent) 0 || ltb (c .before .args .n) (c .before .args .parent))
 joined c =

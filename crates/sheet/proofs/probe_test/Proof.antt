@@ -36,13 +36,15 @@ packets-wrong-requires c κs = search needs
 
 returns-2 : tie.Need-returns-2
 returns-2 c =
-    packets-refused _ _ _ _ _ (c .before .before .before .before .before .number-at .ensures) (c .before .before .before .before .parent-wrong .ensures) (c .before .before .before .if1 .left) _ _ (c .before .before .number-at2 .ensures)
-    (c .before .packets-wrong .ensures) (c .if2 .taken)
+    let test = c .before .before .before in
+    packets-refused _ _ _ _ _ (test .before .before .number-at .ensures) (test .before .parent-wrong .ensures) (test .if1 .left) _ _
+    (c .before .before .number-at2 .ensures) (c .before .packets-wrong .ensures) (c .if2 .taken)
 
 returns-3 : tie.Need-returns-3
 returns-3 c =
-    probe-passed _ _ _ _ _ (c .before .before .before .before .before .number-at .ensures) (c .before .before .before .before .parent-wrong .ensures) (c .before .before .before .if1 .left) _ _ (c .before .before .number-at2 .ensures)
-    (c .before .packets-wrong .ensures) (c .if2 .left)
+    let test = c .before .before .before in
+    probe-passed _ _ _ _ _ (test .before .before .number-at .ensures) (test .before .parent-wrong .ensures) (test .if1 .left) _ _
+    (c .before .before .number-at2 .ensures) (c .before .packets-wrong .ensures) (c .if2 .left)
 
 pub probe-test-spec : {M : Type 1} → statement M
 probe-test-spec =

@@ -1,7 +1,7 @@
 -- `tabled::put_head` meets its contract: the parts of the line are put one behind the other.
 use borrow.Author.Needs.{needs}
 use Rattle.meaning.specs.Lister.{text}
-use Rattle.wording.proofs.Fitting.{put-whole, put-behind}
+use Rattle.lines.proofs.Fitting.{put-whole, put-behind}
 use Rattle.tabled.specs.Tabled.{headLine}
 use Rattle.tabled.proofs.put_head.Statement.{statement}
 use Rattle.tabled.proofs.put_head.Tie as tie

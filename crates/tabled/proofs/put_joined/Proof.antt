@@ -1,8 +1,7 @@
 -- `tabled::put_joined` meets its contract: the vertex is put, or nothing is.
 use borrow.Author.Needs.{needs}
 use Rattle.meaning.specs.Lister.{text, said}
-use Rattle.wording.proofs.Fitting.{put-whole}
-use Rattle.draw.proofs.TextsPut.{put-if, put-if-not}
+use Rattle.lines.proofs.Fitting.{put-whole, put-if, put-if-not}
 use Rattle.tabled.proofs.put_joined.Statement.{statement}
 use Rattle.tabled.proofs.put_joined.Tie as tie
 

@@ -1,6 +1,6 @@
 -- `tabled::put_shown` meets its contract: the line is put, or nothing is.
 use borrow.Author.Needs.{needs}
-use Rattle.draw.proofs.TextsPut.{put-if, put-if-not}
+use Rattle.lines.proofs.Fitting.{put-if, put-if-not}
 use Rattle.tabled.specs.Tabled.{vertexLine}
 use Rattle.tabled.proofs.put_shown.Statement.{statement}
 use Rattle.tabled.proofs.put_shown.Tie as tie

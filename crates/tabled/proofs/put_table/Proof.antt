@@ -1,7 +1,7 @@
 -- `tabled::put_table` meets its contract: the lines of the vertices are put behind the line of the graph.
 use borrow.Author.Needs.{needs}
 use mathlib.Core.Path.{ap}
-use Rattle.wording.proofs.Fitting.{put-behind, put-same}
+use Rattle.lines.proofs.Fitting.{put-behind, put-same}
 use Rattle.tabled.specs.Tabled.{headLine, shownTable}
 use Rattle.tabled.proofs.put_table.Statement.{statement}
 use Rattle.tabled.proofs.put_table.Tie as tie

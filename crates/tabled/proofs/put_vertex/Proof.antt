@@ -2,7 +2,7 @@
 use borrow.Author.Needs.{needs}
 use mathlib.Core.Path.{ap}
 use Rattle.meaning.specs.Lister.{text, said}
-use Rattle.wording.proofs.Fitting.{put-whole, put-behind, put-same}
+use Rattle.lines.proofs.Fitting.{put-whole, put-behind, put-same}
 use Rattle.tabled.specs.Tabled.{vertexLine}
 use Rattle.tabled.proofs.put_vertex.Statement.{statement}
 use Rattle.tabled.proofs.put_vertex.Tie as tie

@@ -1,6 +1,6 @@
 -- `tabled::table_text` meets its contract: the text is made in one of its own, which has room for any, and copied from there as a whole.
 use borrow.Author.Needs.{needs}
-use Rattle.wording.proofs.Wordings.{line-end, line-counts, answered}
+use Rattle.lines.proofs.OwnLine.{line-end, line-counts, answered}
 use Rattle.tabled.proofs.TableLong.{table-most}
 use Rattle.tabled.proofs.table_text.Statement.{statement}
 use Rattle.tabled.proofs.table_text.Tie as tie

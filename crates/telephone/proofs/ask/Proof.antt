@@ -1,21 +1,9 @@
 -- `telephone::ask` meets its contract: a refusal is the planner's, and what is counted in the tree is what the sheet says.
-use mathlib.Core.Path.{_≡_}
-use mathlib.Core.List.{List}
-use Prim.Native.Nat.{ℕ}
-use lib.ListN.{length, replicate, length-replicate}
-use Rattle.meaning.specs.Plan.{anyPlan}
 use Rattle.telephone.proofs.Telephoned.{ask-refused, most-fits, ask-planned}
 use native.Mathlib.Omega.{arith}
 use borrow.Author.Needs.{needs}
 use Rattle.telephone.proofs.ask.Statement.{statement}
 use Rattle.telephone.proofs.ask.Tie as tie
-
--- the buffer for the plan, as it is made
-abbrev blank : List ℕ
-blank = replicate anyPlan 0
-
-long : length blank ≡ anyPlan
-long = length-replicate {A = ℕ} anyPlan 0
 
 slice-aggregate-by-probe : tie.Need-slice-aggregate-by-probe
 slice-aggregate-by-probe c = search needs
@@ -27,7 +15,7 @@ returns : tie.Need-returns
 returns c =
     let start = c .before .before .before .before .before .before .before in
     let by = c .before .before .before .before .by-probe in
-    ask-refused (start .args .sheet .now) blank long (by .result) (by .ensures .0) (c .if1 .taken)
+    ask-refused (start .args .sheet .now) (by .ensures .0) (c .if1 .taken)
 
 read-requires : tie.Need-read-requires
 read-requires c κs = search needs
@@ -47,7 +35,7 @@ cast-most c =
     let by = c .before .before .before .before .before .before .before .before .before .before .by-probe in
     let passed = c .before .before .before .before .before .before .if1 .left in
     let tree = c .before .before .before .before .before .read in
-    omega (arith, most-fits (start .args .sheet .now) blank long (by .result) (by .ensures .0) passed (tree .result) (tree .ensures) _ _ (c .at-most .ensures))
+    omega (arith, most-fits (start .args .sheet .now) (by .ensures .0) passed (tree .ensures) _ (c .at-most .ensures))
 
 times-any-requires : tie.Need-times-any-requires
 times-any-requires c κs = search needs
@@ -58,7 +46,7 @@ returns-2 c =
     let by = c .before .before .before .before .before .before .before .before .before .before .before .by-probe in
     let passed = c .before .before .before .before .before .before .before .if1 .left in
     let tree = c .before .before .before .before .before .before .read in
-    ask-planned (start .args .sheet .now) blank long (by .result) (by .ensures .0) passed (tree .result) (tree .ensures) _ _ _ _
+    ask-planned (start .args .sheet .now) (by .ensures .0) passed (tree .ensures)
     (c .before .before .before .least-slots .ensures) (c .before .before .slowest .ensures) (c .before .at-most .ensures) (c .times-any .ensures)
 
 pub ask-spec : {M : Type 1} → statement M

@@ -1,7 +1,6 @@
 -- `texts::read_text` ends, and reads within its piece. The measure is the pieces that are left.
 use mathlib.Core.Path.{_≡_}
 use lib.ListN.{length}
-use native.Mathlib.Omega.{arith}
 use borrow.Author.Needs.{needs}
 use Rattle.texts.proofs.read_text.Statement.{statement}
 use Rattle.texts.proofs.read_text.Tie as tie

@@ -26,7 +26,9 @@ say-requires : tie.Need-say-requires
 say-requires c κs = search needs
 
 returns-2 : tie.Need-returns-2
-returns-2 c = rw (ne-eqb (c .before .before .before .before .before .before .before .args .graph .number) 0 (c .before .before .before .before .before .if1 .left)) (c .say .ensures)
+returns-2 c =
+    let test = c .before .before .before .before .before in
+    rw (ne-eqb (test .before .before .args .graph .number) 0 (test .if1 .left)) (c .say .ensures)
 
 pub say-graph-spec : {M : Type 1} → statement M
 say-graph-spec =

@@ -3,16 +3,17 @@ use mathlib.Core.Path.{_≡_, refl, _∙_}
 use Prim.Native.Nat.{_-_, _≤_}
 use lib.ListN.{length}
 use Rattle.meaning.specs.Lister.{text}
-use Rattle.lines.specs.Line.{Put}
-use Rattle.lines.proofs.Putting.{put-none, put-long}
-use Rattle.waking.proofs.WakeWords.{slotOf, firstSlots, none-said, slots-put-none, slots-put-next, slots-put-all}
+use Rattle.lines.specs.Fits.{Fits}
+use Rattle.lines.proofs.Putting.{put-long}
+use Rattle.lines.proofs.Fitting.{put-whole}
+use Rattle.waking.proofs.WakeWords.{slotOf, firstSlots, slots-put-start, slots-put-none, slots-put-next, slots-put-all}
 use native.Mathlib.Omega.{arith}
 use borrow.Author.Needs.{needs}
 use Rattle.waking.proofs.put_slots.Statement.{statement}
 use Rattle.waking.proofs.put_slots.Tie as tie
 
 abbrev Inv-loop : tie.InvT-loop
-Inv-loop entry at out₀ start many end₀ i₀ t10 out end i = (i ≤ many) × (length out ≡ length out₀) × Put out₀ start (firstSlots (slotOf entry at) i) out end
+Inv-loop entry at out₀ start many end₀ i₀ t10 out end i = (i ≤ many) × (length out ≡ length out₀) × Fits out₀ start (firstSlots (slotOf entry at) i) out end
 
 abbrev μ-loop : tie.MeasureT-loop
 μ-loop entry at out₀ start many end₀ i₀ t10 out end i = many - i
@@ -35,12 +36,11 @@ returns c =
     let put = c .before .before in
     let test = put .before .before .before in
     let start = test .before .before .before .before in
-    slots-put-none (slotOf (start .args .entry .now) (start .args .at)) _ _ (test .before .two-at .ensures) (start .pre .1) (test .if1 .taken) (put .put-words .ensures)
+    slots-put-none (slotOf (start .args .entry .now) (start .args .at)) _ _ (test .before .two-at .ensures) (test .if1 .taken)
+    (put-whole (put .put-words .ensures))
 
 loop-holds : tie.Need-loop-holds Inv-loop μ-loop
-loop-holds c =
-    let a = c .before .before .before .before .args in
-    (omega arith, refl, put-none _ _ _ (none-said (slotOf (a .entry .now) (a .at))))
+loop-holds c = (omega arith, refl, slots-put-start _ _ _)
 
 add-two-at : tie.Need-add-two-at Inv-loop μ-loop
 add-two-at c = search needs
@@ -74,16 +74,10 @@ unfolding text
 loop-again c =
     let put = c .before .before in
     let slot = put .before .before .before in
-    let turn = slot .before .before .loop in
-    let many = slot .before .before .before in
-    let start = many .before .before .before .before in (
+    let turn = slot .before .before .loop in (
       omega arith,
       put-long (put .put-counted .ensures) ∙ turn .inv .1,
-      slots-put-next (slotOf (start .args .entry .now) (start .args .at)) _ _ (many .before .two-at .ensures) (start .pre .1) (turn .i) _ (many .if1 .left)
-          (slot .before .loop-test .taken)
-          (slot .two-at2 .ensures)
-          (turn .inv .2)
-          (put .put-counted .ensures),
+      slots-put-next _ (turn .i) _ (slot .two-at2 .ensures) (turn .inv .2) (put-whole (put .put-counted .ensures)),
     )
 
 same-length-2 : tie.Need-same-length-2 Inv-loop μ-loop
@@ -94,10 +88,8 @@ returns-2 c =
     let done = c .before .loop in
     let many = c .before .before in
     let start = many .before .before .before .before in
-    slots-put-all (slotOf (start .args .entry .now) (start .args .at)) _ _ (many .before .two-at .ensures) (start .pre .1) (done .i) (many .if1 .left)
-    (done .inv .0)
-    (omega arith)
-    (done .inv .2)
+    slots-put-all (slotOf (start .args .entry .now) (start .args .at)) _ _ (many .before .two-at .ensures) (done .i) (many .if1 .left)
+    (done .inv .0) (omega arith) (done .inv .2)
 
 pub put-slots-spec : {M : Type 1} → statement M
 put-slots-spec =

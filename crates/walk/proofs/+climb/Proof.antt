@@ -51,11 +51,17 @@ climb-enum-told t c = search needs
 
 climb-returns-3 : (t : ℕ) → climb-lts.Need-returns-3 (number-at.Asked, number-at.Learnt, climb-below t, climb.Post) (climb-at t) climb.Post
 climb-returns-3 t c =
-    climbed-on _ _ _ _ _ _ (c .before .before .before .before .before .before .before .before .if1 .left) (c .before .before .before .before .before .before .before .if2 .left) (c .before .before .before .before .before .number-at .ensures) (c .before .before .before .before .climb .ensures) (c .before .before .level .given .1)
+    let below = c .before .before .before .before in
+    let node = below .before in
+    let test = node .before .before in
+    climbed-on _ _ _ _ _ _ (test .before .if1 .left) (test .if2 .left) (node .number-at .ensures) (below .climb .ensures) (c .before .before .level .given .1)
 
 climb-returns-4 : (t : ℕ) → climb-lts.Need-returns-4 (number-at.Asked, number-at.Learnt, climb-below t, climb.Post) (climb-at t) climb.Post
 climb-returns-4 t c =
-    climbed-on _ _ _ _ _ _ (c .before .before .before .before .before .before .if1 .left) (c .before .before .before .before .before .if2 .left) (c .before .before .before .number-at .ensures) (c .before .before .climb .ensures) (c .enum-told .given .1)
+    let below = c .before .before in
+    let node = below .before in
+    let test = node .before .before in
+    climbed-on _ _ _ _ _ _ (test .before .if1 .left) (test .if2 .left) (node .number-at .ensures) (below .climb .ensures) (c .enum-told .given .1)
 
 pub +climb-spec : {M : Type 1} → statement M
 +climb-spec =

@@ -1,11 +1,9 @@
 -- `wording::misread` meets its contract: the answer is made in a line of its own, which has room for any, and copied from there as a whole.
 use borrow.Author.Needs.{needs}
+use Rattle.lines.proofs.OwnLine.{line-end, line-counts, answered}
 use Rattle.wording.proofs.AnswersLong.{misread-most}
-use Rattle.wording.proofs.Wordings.{line-end, line-counts, answered}
 use Rattle.wording.proofs.misread.Statement.{statement}
 use Rattle.wording.proofs.misread.Tie as tie
-use Rattle.lines.proofs.put_words.Reads as put-words-reads
-use Rattle.wording.proofs.put_misread.Reads as put-misread-reads
 
 slice-aggregate-put-misread : tie.Need-slice-aggregate-put-misread
 slice-aggregate-put-misread c = search needs
@@ -14,16 +12,10 @@ put-misread-requires : tie.Need-put-misread-requires
 put-misread-requires c κs = search needs
 
 array-share-prefix-line : tie.Need-array-share-prefix-line
-array-share-prefix-line c =
-    let put = c .before in
-    let a = put .before .before .before .args in
-    line-end (misread-most (a .number) (a .place)) (put .put-misread .ensures)
+array-share-prefix-line c = line-end (misread-most _ _) (c .before .put-misread .ensures)
 
 slice-aggregate-put-words : tie.Need-slice-aggregate-put-words
-slice-aggregate-put-words c =
-    let put = c .before .before in
-    let a = put .before .before .before .args in
-    line-counts (misread-most (a .number) (a .place)) (put .put-misread .ensures)
+slice-aggregate-put-words c = line-counts (misread-most _ _) (c .before .before .put-misread .ensures)
 
 put-words-requires : tie.Need-put-words-requires
 put-words-requires c κs = search needs
@@ -33,9 +25,8 @@ same-length c = search needs
 
 returns : tie.Need-returns
 returns c =
-    let put = c .before .before .before .before .before .before in
-    let a = put .before .before .before .args in
-    answered (misread-most (a .number) (a .place)) (put .put-misread .ensures) (c .before .before .put-words .ensures)
+    let copy = c .before .before in
+    answered (misread-most _ _) (copy .before .before .before .before .put-misread .ensures) (copy .put-words .ensures)
 
 pub misread-spec : {M : Type 1} → statement M
 misread-spec =

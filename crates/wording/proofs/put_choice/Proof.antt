@@ -2,8 +2,8 @@
 use borrow.Author.Needs.{needs}
 use mathlib.Core.Path.{sym, ap}
 use Rattle.meaning.specs.Lister.{text}
+use Rattle.lines.proofs.Fitting.{put-whole, put-same}
 use Rattle.wording.specs.Worded.{choiceLine}
-use Rattle.wording.proofs.Fitting.{put-whole, put-same}
 use Rattle.wording.proofs.put_choice.Statement.{statement}
 use Rattle.wording.proofs.put_choice.Tie as tie
 

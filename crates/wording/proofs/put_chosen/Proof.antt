@@ -1,8 +1,8 @@
 -- `wording::put_chosen` meets its contract: its parts are put one behind the other.
 use borrow.Author.Needs.{needs}
 use Rattle.meaning.specs.Lister.{text}
+use Rattle.lines.proofs.Fitting.{put-whole, put-behind}
 use Rattle.wording.specs.Worded.{choiceText}
-use Rattle.wording.proofs.Fitting.{put-whole, put-behind}
 use Rattle.wording.proofs.put_chosen.Statement.{statement}
 use Rattle.wording.proofs.put_chosen.Tie as tie
 

@@ -2,7 +2,7 @@
 use borrow.Author.Needs.{needs}
 use mathlib.Core.Path.{sym, ap}
 use Rattle.meaning.specs.Lister.{text, said}
-use Rattle.wording.proofs.Fitting.{put-whole, put-behind, put-same}
+use Rattle.lines.proofs.Fitting.{put-whole, put-behind, put-same}
 use Rattle.wording.proofs.WhichLine.{planned-line, unplanned-line}
 use Rattle.wording.proofs.put_planned.Statement.{statement}
 use Rattle.wording.proofs.put_planned.Tie as tie

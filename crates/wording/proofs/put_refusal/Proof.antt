@@ -1,7 +1,7 @@
 -- `wording::put_refusal` meets its contract: its parts are put one behind the other.
 use borrow.Author.Needs.{needs}
 use Rattle.meaning.specs.Lister.{text}
-use Rattle.wording.proofs.Fitting.{put-whole, put-behind}
+use Rattle.lines.proofs.Fitting.{put-whole, put-behind}
 use Rattle.wording.proofs.put_refusal.Statement.{statement}
 use Rattle.wording.proofs.put_refusal.Tie as tie
 

@@ -1,6 +1,6 @@
 -- `wording::put_said_of_any` meets its contract: what is said is put behind whom it is said of.
 use borrow.Author.Needs.{needs}
-use Rattle.wording.proofs.Fitting.{put-whole, put-behind}
+use Rattle.lines.proofs.Fitting.{put-whole, put-behind}
 use Rattle.wording.proofs.put_said_of_any.Statement.{statement}
 use Rattle.wording.proofs.put_said_of_any.Tie as tie
 

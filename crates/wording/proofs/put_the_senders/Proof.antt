@@ -1,7 +1,7 @@
 -- `wording::put_the_senders` meets its contract: one sender is one part, and two are put one behind the other.
 use borrow.Author.Needs.{needs}
 use Rattle.meaning.specs.Lister.{text}
-use Rattle.wording.proofs.Fitting.{put-whole, put-behind}
+use Rattle.lines.proofs.Fitting.{put-whole, put-behind}
 use Rattle.wording.proofs.WhichLine.{put-two, put-one}
 use Rattle.wording.proofs.put_the_senders.Statement.{statement}
 use Rattle.wording.proofs.put_the_senders.Tie as tie

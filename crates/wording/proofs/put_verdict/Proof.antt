@@ -2,7 +2,7 @@
 use borrow.Author.Needs.{needs}
 use mathlib.Core.Path.{sym}
 use Rattle.meaning.specs.Lister.{text}
-use Rattle.wording.proofs.Fitting.{put-whole, put-behind, put-same}
+use Rattle.lines.proofs.Fitting.{put-whole, put-behind, put-same}
 use Rattle.wording.proofs.WhichLine.{passed-line, failed-line}
 use Rattle.wording.proofs.put_verdict.Statement.{statement}
 use Rattle.wording.proofs.put_verdict.Tie as tie

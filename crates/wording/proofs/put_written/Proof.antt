@@ -2,13 +2,10 @@
 use borrow.Author.Needs.{needs}
 use mathlib.Core.Path.{sym}
 use Rattle.meaning.specs.Lister.{text}
-use Rattle.wording.proofs.Fitting.{put-whole, put-behind, put-same}
+use Rattle.lines.proofs.Fitting.{put-whole, put-behind, put-same}
 use Rattle.wording.proofs.WhichLine.{written-line, unwritten-line}
 use Rattle.wording.proofs.put_written.Statement.{statement}
 use Rattle.wording.proofs.put_written.Tie as tie
-use Rattle.lines.proofs.put_long.Reads as put-long-reads
-use Rattle.lines.proofs.put_words.Reads as put-words-reads
-use Rattle.wording.proofs.put_refused.Reads as put-refused-reads
 
 put-refused-requires : tie.Need-put-refused-requires
 put-refused-requires c κs = search needs

@@ -1,11 +1,9 @@
 -- `wording::written` meets its contract: the answer is made in a line of its own, which has room for any, and copied from there as a whole.
 use borrow.Author.Needs.{needs}
+use Rattle.lines.proofs.OwnLine.{line-end, line-counts, answered}
 use Rattle.wording.proofs.AnswersLong.{written-most}
-use Rattle.wording.proofs.Wordings.{line-end, line-counts, answered}
 use Rattle.wording.proofs.written.Statement.{statement}
 use Rattle.wording.proofs.written.Tie as tie
-use Rattle.lines.proofs.put_words.Reads as put-words-reads
-use Rattle.wording.proofs.put_written.Reads as put-written-reads
 
 slice-aggregate-put-written : tie.Need-slice-aggregate-put-written
 slice-aggregate-put-written c = search needs
@@ -14,16 +12,10 @@ put-written-requires : tie.Need-put-written-requires
 put-written-requires c κs = search needs
 
 array-share-prefix-line : tie.Need-array-share-prefix-line
-array-share-prefix-line c =
-    let put = c .before in
-    let a = put .before .before .before .args in
-    line-end (written-most (a .outcome) (a .bytes)) (put .put-written .ensures)
+array-share-prefix-line c = line-end (written-most _ _) (c .before .put-written .ensures)
 
 slice-aggregate-put-words : tie.Need-slice-aggregate-put-words
-slice-aggregate-put-words c =
-    let put = c .before .before in
-    let a = put .before .before .before .args in
-    line-counts (written-most (a .outcome) (a .bytes)) (put .put-written .ensures)
+slice-aggregate-put-words c = line-counts (written-most _ _) (c .before .before .put-written .ensures)
 
 put-words-requires : tie.Need-put-words-requires
 put-words-requires c κs = search needs
@@ -33,9 +25,8 @@ same-length c = search needs
 
 returns : tie.Need-returns
 returns c =
-    let put = c .before .before .before .before .before .before in
-    let a = put .before .before .before .args in
-    answered (written-most (a .outcome) (a .bytes)) (put .put-written .ensures) (c .before .before .put-words .ensures)
+    let copy = c .before .before in
+    answered (written-most _ _) (copy .before .before .before .before .put-written .ensures) (copy .put-words .ensures)
 
 pub written-spec : {M : Type 1} → statement M
 written-spec =

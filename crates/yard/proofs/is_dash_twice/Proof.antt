@@ -1,6 +1,5 @@
 -- `yard::is_dash_twice` ends: the measure is the arguments that are left.
 use Prim.Native.Nat.{_-_}
-use native.Mathlib.Omega.{arith}
 use borrow.Author.Needs.{needs}
 use Rattle.yard.proofs.is_dash_twice.Statement.{statement}
 use Rattle.yard.proofs.is_dash_twice.Tie as tie
