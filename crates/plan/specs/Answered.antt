@@ -13,7 +13,7 @@ use Rattle.meaning.specs.Plan.{planBytes, roomFor, front}
 use Rattle.meaning.specs.Rounds.{sendingsIn}
 use Rattle.meaning.specs.Answer.{accepted, given, _then_, sheetTest}
 use Rattle.sheet.specs.Tree.{treeOf}
-use Rattle.plan.specs.TurnByTurn.{told, heldBy, sendingsBy, slotsBy}
+use Rattle.plan.specs.TurnByTurn.{codeWay, heldBy, sendingsBy, slotsBy}
 
 -- the tests of sheet and room, as the planners run them
 abbrev pub groundTest : Mode → List ℕ → ℕ → Outcome
@@ -35,7 +35,7 @@ prepared mode s room =
 -- the slots of the plan that is made of a tree, a table of conflicts and m colours
 abbrev pub slotsOn : Mode → Tree → List (List Bool) → List ℕ → ℕ → List (List ℕ)
 slotsOn mode tree table own m =
-    slotsBy (told mode (tree .probes) (tree .parents) own m) table (sendingsBy mode (tree .probes) (tree .hops)) (heldBy mode (tree .probes) (tree .packets))
+    slotsBy (codeWay mode (tree .probes) (tree .parents) own m) table (sendingsBy mode (tree .probes) (tree .hops)) (heldBy mode (tree .probes) (tree .packets))
 
 -- the plan is written and answered for
 pub record Finished (plan : List (List ℕ)) (m : ℕ) (buffer buffer′ : List ℕ) (answer : Planned) : Type 0 where

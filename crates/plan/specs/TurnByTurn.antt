@@ -18,8 +18,8 @@ use Rattle.sending.specs.First.{firstHeld}
 use Rattle.plan.specs.ColourTurn.{Ready}
 
 -- the code's way, field by field
-abbrev pub told : Mode → (p : ℕ) → (parents own : List ℕ) → (m : ℕ) → code.Way
-told mode p parents own m = record { mode = mode; probes = p; parents = parents; own = own; colours = m }
+abbrev pub codeWay : Mode → (p : ℕ) → (parents own : List ℕ) → (m : ℕ) → code.Way
+codeWay mode p parents own m = record { mode = mode; probes = p; parents = parents; own = own; colours = m }
 
 -- where what is sent goes on it
 abbrev pub goesBy : code.Way → ℕ → ℕ

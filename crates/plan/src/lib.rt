@@ -9,7 +9,7 @@ ghost use Rattle.meaning.specs.Answer.{given, _then_, planMadeIn, planMade, mer
 ghost use Rattle.meaning.specs.Rounds.{mayIn, goesIn, rounds, byProbeIn, byProbe, byLevel};
 ghost use Rattle.chosen.specs.TurnSlot.{turnBy};
 ghost use Rattle.plan.specs.ColourTurn.{Ready, Turned};
-ghost use Rattle.plan.specs.TurnByTurn.{told, goesBy, wayBy, from, roundBy, Going, heldBy, sendingsBy, slotsBy, ToFill, Filled};
+ghost use Rattle.plan.specs.TurnByTurn.{codeWay, goesBy, wayBy, from, roundBy, Going, heldBy, sendingsBy, slotsBy, ToFill, Filled};
 ghost use Rattle.plan.specs.Answered.{prepared, slotsOn, Finished};
 use meaning::Colour;
 use meaning::Mode;
@@ -85,7 +85,7 @@ fn round<'a>(
 ) -> Made
     requires { ⌜ Ready p (goesIn mode (byNode (now parents))) (now held) (length (now rest)) ⌝ }
     ensures { λ r. ⌜ Going p (goesIn mode (byNode (now (parents .entry))))
-        (roundBy (told mode p (now (parents .entry)) (now (own .entry)) m) (now (table .entry)) (now (held .entry)))
+        (roundBy (codeWay mode p (now (parents .entry)) (now (own .entry)) m) (now (table .entry)) (now (held .entry)))
         (now (held .exit)) (now (rest .entry)) (now (rest .exit)) (r .bytes) (r .slots) ⌝ }
 {
     let mut at: usize = 0;

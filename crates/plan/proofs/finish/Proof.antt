@@ -5,7 +5,7 @@ use Prim.Native.Nat.{ℕ, _≤_}
 use lib.ListN.{length}
 use Rattle.meaning.specs.Plan.{planBytes, front}
 use Rattle.meaning.specs.Answer.{accepted}
-use Rattle.plan.specs.TurnByTurn.{told, heldBy, slotsBy, Filled}
+use Rattle.plan.specs.TurnByTurn.{codeWay, heldBy, slotsBy, Filled}
 use Rattle.plan.specs.Answered.{Finished}
 use native.Mathlib.Omega.{arith}
 use borrow.Author.Needs.{needs}
@@ -53,7 +53,7 @@ returns-2 c =
     let a = fill .before .before .before .before .before .before .args in
     let tree = a .tree in
     let held = heldBy (a .mode) (tree .probes) (tree .packets) in
-    let by = told (a .mode) (tree .probes) (tree .parents) (a .own) (a .m) in
+    let by = codeWay (a .mode) (tree .probes) (tree .parents) (a .own) (a .m) in
     finished (ap (λ (n : ℕ). slotsBy by (a .table) n held) (fill .before .before .sendings-in .ensures)) (fill .fill .ensures)
 
 pub finish-spec : {M : Type 1} → statement M

@@ -5,7 +5,7 @@ use lib.ListN.{length, take, drop, length-drop}
 use Rattle.meaning.specs.Words.{byNode}
 use Rattle.meaning.specs.Rounds.{Progress, goesIn}
 use Rattle.plan.specs.ColourTurn.{Ready}
-use Rattle.plan.specs.TurnByTurn.{told, Going}
+use Rattle.plan.specs.TurnByTurn.{codeWay, Going}
 use Rattle.plan.proofs.TurnByTurn.{turns, turns-all, going-start, going-next, going-long, part-from}
 use native.Mathlib.Omega.{arith}
 use borrow.Author.Needs.{needs}
@@ -14,7 +14,7 @@ use Rattle.plan.proofs.round.Tie as tie
 
 abbrev Inv-loop : tie.InvT-loop
 Inv-loop mode p parents table own m held₀ rest₀ at₀ slots₀ s₀ held rest at slots s =
-    (s ≤ m) × Going p (goesIn mode (byNode parents)) (turns (told mode p parents own m) table s held₀) held rest₀ rest at slots
+    (s ≤ m) × Going p (goesIn mode (byNode parents)) (turns (codeWay mode p parents own m) table s held₀) held rest₀ rest at slots
 
 abbrev μ-loop : tie.MeasureT-loop
 μ-loop mode p parents table own m held₀ rest₀ at₀ slots₀ s₀ held rest at slots s = m - s
@@ -22,7 +22,7 @@ abbrev μ-loop : tie.MeasureT-loop
 loop-holds : tie.Need-loop-holds Inv-loop μ-loop
 loop-holds c =
     let a = c .before .args in
-    let by = told (a .mode) (a .p) (a .parents .now) (a .own .now) (a .m) in
+    let by = codeWay (a .mode) (a .p) (a .parents .now) (a .own .now) (a .m) in
     (search needs, going-start by (a .table .now) (a .held .now) (a .rest .now) (c .before .pre))
 
 add-t14 : tie.Need-add-t14 Inv-loop μ-loop
@@ -87,7 +87,7 @@ returns c =
     let a = c .before .before .before .args in
     let l = c .before .loop in
     let all : l .s ≡ a .m = omega (arith, l .inv .0) in
-    let by = told (a .mode) (a .p) (a .parents .now) (a .own .now) (a .m) in
+    let by = codeWay (a .mode) (a .p) (a .parents .now) (a .own .now) (a .m) in
     subst (λ (now : Progress). Going (a .p) (goesIn (a .mode) (byNode (a .parents .now))) now (l .held) (a .rest .now) (l .rest) (l .at) (l .slots))
     (ap (λ (k : ℕ). turns by (a .table .now) k (a .held .now)) all ∙ turns-all by (a .table .now) (a .held .now))
     (l .inv .1)
