@@ -8,11 +8,11 @@ use native.Mathlib.Omega.{arith}
 use lib.Dec.{ltb}
 use borrow.Author.Tests.{ltb-true, ltb-false, le-ltb, eq-eqb}
 use Rattle.meaning.specs.Words.{sum, count}
-use Rattle.meaning.specs.Yard.{isProbe}
-use Rattle.meaning.specs.Sheet.{probeCount, packetsOf, allPackets}
+use Rattle.meaning.specs.Yard.{is_probe}
+use Rattle.meaning.specs.Sheet.{probe_count, packets_of, all_packets}
 use Rattle.laws.proofs.Turns.{sum_same, sum-constant}
 use Rattle.laws.proofs.Walk.{probe-yes}
-use Rattle.arrangement.specs.Arranged.{comesBefore, placeOf, worstSlots}
+use Rattle.arrangement.specs.Arranged.{comes_before, place_of, worst_slots}
 
 -- of n numbers in turn those below m
 count-below : (n m : ℕ) → count n (λ k. ltb (k + 2) (m + 2)) ≡ min n m
@@ -41,31 +41,31 @@ staircase each (suc p) =
       suc-mul p (p * each),
     )
 
-module _ (s : List ℕ) (each : ℕ) (same : (v : ℕ) → isProbe (probeCount s) v ≡ true → packetsOf s v ≡ each) where
-  alike : (k : ℕ) → k < probeCount s → packetsOf s (k + 2) ≡ each
-  alike k h = same (k + 2) (probe-yes (probeCount s) (k + 2) (omega arith) (omega arith))
+module _ (s : List ℕ) (each : ℕ) (same : (v : ℕ) → is_probe (probe_count s) v ≡ true → packets_of s v ≡ each) where
+  alike : (k : ℕ) → k < probe_count s → packets_of s (k + 2) ≡ each
+  alike k h = same (k + 2) (probe-yes (probe_count s) (k + 2) (omega arith) (omega arith))
 
   -- the order is that of the numbers
-  by_number : (j k : ℕ) → j < probeCount s → k < probeCount s → comesBefore (packetsOf s) (j + 2) (k + 2) ≡ ltb (j + 2) (k + 2)
+  by_number : (j k : ℕ) → j < probe_count s → k < probe_count s → comes_before (packets_of s) (j + 2) (k + 2) ≡ ltb (j + 2) (k + 2)
   by_number j k hj hk =
       ap₂ (λ (a b : Bool). a || (b && ltb (j + 2) (k + 2)))
-      (le-ltb (packetsOf s (j + 2)) (packetsOf s (k + 2)) (omega (arith, alike j hj, alike k hk)))
-      (eq-eqb (packetsOf s (j + 2)) (packetsOf s (k + 2)) (alike j hj ∙ sym (alike k hk)))
+      (le-ltb (packets_of s (j + 2)) (packets_of s (k + 2)) (omega (arith, alike j hj, alike k hk)))
+      (eq-eqb (packets_of s (j + 2)) (packets_of s (k + 2)) (alike j hj ∙ sym (alike k hk)))
 
-  in-turn : (k : ℕ) → k < probeCount s → placeOf (probeCount s) (packetsOf s) (k + 2) ≡ suc k
-  unfolding placeOf
+  in-turn : (k : ℕ) → k < probe_count s → place_of (probe_count s) (packets_of s) (k + 2) ≡ suc k
+  unfolding place_of
   in-turn k h =
       let others =
-      sum_same (probeCount s) (λ j. cond (comesBefore (packetsOf s) (j + 2) (k + 2)) 1 0) (λ j. cond (ltb (j + 2) (k + 2)) 1 0)
+      sum_same (probe_count s) (λ j. cond (comes_before (packets_of s) (j + 2) (k + 2)) 1 0) (λ j. cond (ltb (j + 2) (k + 2)) 1 0)
       (λ j hj. ap (λ (b : Bool). cond b 1 0) (by_number j k hj h)) in
-      omega (arith, others, count-below (probeCount s) k)
+      omega (arith, others, count-below (probe_count s) k)
 
-  pub equal-worst : 2 * worstSlots s ≡ (probeCount s + 1) * allPackets s
-  unfolding worstSlots allPackets
+  pub equal-worst : 2 * worst_slots s ≡ (probe_count s + 1) * all_packets s
+  unfolding worst_slots all_packets
   equal-worst =
       ap (λ (n : ℕ). 2 * n)
-      (sum_same (probeCount s) (λ k. packetsOf s (k + 2) * placeOf (probeCount s) (packetsOf s) (k + 2)) (λ k. each * suc k)
+      (sum_same (probe_count s) (λ k. packets_of s (k + 2) * place_of (probe_count s) (packets_of s) (k + 2)) (λ k. each * suc k)
       (λ k h. ap₂ ◌*◌ (alike k h) (in-turn k h)))
-      ∙ staircase each (probeCount s)
-      ∙ ap₂ ◌*◌ {x = suc (probeCount s)} (omega arith)
-      (sym (sum_same (probeCount s) (λ k. packetsOf s (k + 2)) (λ _. each) alike ∙ sum-constant (probeCount s) each))
+      ∙ staircase each (probe_count s)
+      ∙ ap₂ ◌*◌ {x = suc (probe_count s)} (omega arith)
+      (sym (sum_same (probe_count s) (λ k. packets_of s (k + 2)) (λ _. each) alike ∙ sum-constant (probe_count s) each))

@@ -6,15 +6,15 @@ use Prim.Native.Nat.{ℕ, ◌+◌, ◌*◌, ◌≤◌, ◌<◌}
 use native.Mathlib.Nat.{mul-le-mul_left}
 use native.Mathlib.Omega.{arith}
 use Rattle.meaning.specs.Words.{count, most}
-use Rattle.meaning.specs.Yard.{isProbe}
+use Rattle.meaning.specs.Yard.{is_probe}
 use Rattle.laws.proofs.Turns.{sum-least}
 use Rattle.laws.proofs.Walk.{probe-yes}
 use Rattle.laws.proofs.Levels.{most-holds, most-within}
 use Rattle.limits.proofs.Sums.{sum-add, sum-times, together}
 
 module _ (p : ℕ) (chosen heavy : ℕ → Bool) (packets : ℕ → ℕ)
-    (heavier : (u v : ℕ) → isProbe p u ≡ true → isProbe p v ≡ true → heavy u ≡ true → heavy v ≡ false → packets v ≤ packets u) where
-  probe : (k : ℕ) → k < p → isProbe p (k + 2) ≡ true
+    (heavier : (u v : ℕ) → is_probe p u ≡ true → is_probe p v ≡ true → heavy u ≡ true → heavy v ≡ false → packets v ≤ packets u) where
+  probe : (k : ℕ) → k < p → is_probe p (k + 2) ≡ true
   probe k h = probe-yes p (k + 2) (omega arith) (omega arith)
 
   -- the most packets of a probe outside

@@ -3,9 +3,9 @@ use mathlib.Core.Bool.{Bool, true, false, ◌&&◌}
 use mathlib.Core.List.{List, [], ◌∷◌}
 use Prim.Native.Nat.{ℕ}
 use lib.Dec.{T, eqb}
-use Rattle.meaning.specs.Words.{forEach, least, sum, in_turn}
-use Rattle.meaning.specs.Sheet.{packetsOf}
-use Rattle.arrangement.specs.Arranged.{placeOf, worstSlots, chainParent, worstSheet, bestSheet}
+use Rattle.meaning.specs.Words.{for_each, least, sum, in_turn}
+use Rattle.meaning.specs.Sheet.{packets_of}
+use Rattle.arrangement.specs.Arranged.{place_of, worst_slots, chain_parent, worst_sheet, best_sheet}
 
 abbrev pub same : List ℕ → List ℕ → Bool
 same [] [] = true
@@ -25,13 +25,13 @@ mixed = 3 ∷ 1 ∷ 3 ∷ 1 ∷ 1 ∷ 1 ∷ 2 ∷ 0 ∷ 0 ∷ []
 abbrev pub relays : List ℕ
 relays = 3 ∷ 1 ∷ 0 ∷ 2 ∷ 1 ∷ 1 ∷ 0 ∷ 0 ∷ 0 ∷ []
 
-pub computed : T (eqb (worstSlots A) 6
-    && eqb (worstSlots mixed) 14
-    && eqb (worstSlots relays) 3
-    && eqb (worstSlots (0 ∷ 0 ∷ 0 ∷ [])) 0
-    && same (worstSheet A) (3 ∷ 1 ∷ 1 ∷ 2 ∷ 1 ∷ 3 ∷ 1 ∷ 0 ∷ 6 ∷ 1 ∷ 2 ∷ 1 ∷ 3 ∷ 1 ∷ 4 ∷ 2 ∷ 3 ∷ 2 ∷ 4 ∷ 3 ∷ 4 ∷ [])
-    && same (worstSheet mixed) (3 ∷ 4 ∷ 3 ∷ 1 ∷ 1 ∷ 3 ∷ 2 ∷ 0 ∷ 6 ∷ 1 ∷ 2 ∷ 1 ∷ 3 ∷ 1 ∷ 4 ∷ 2 ∷ 3 ∷ 2 ∷ 4 ∷ 3 ∷ 4 ∷ [])
-    && same (worstSheet (0 ∷ 0 ∷ 0 ∷ [])) (0 ∷ 0 ∷ 0 ∷ [])
-    && same (bestSheet mixed) (3 ∷ 1 ∷ 3 ∷ 1 ∷ 1 ∷ 1 ∷ 2 ∷ 0 ∷ 0 ∷ []))
-unfolding forEach least sum packetsOf placeOf worstSlots chainParent in_turn worstSheet bestSheet
+pub computed : T (eqb (worst_slots A) 6
+    && eqb (worst_slots mixed) 14
+    && eqb (worst_slots relays) 3
+    && eqb (worst_slots (0 ∷ 0 ∷ 0 ∷ [])) 0
+    && same (worst_sheet A) (3 ∷ 1 ∷ 1 ∷ 2 ∷ 1 ∷ 3 ∷ 1 ∷ 0 ∷ 6 ∷ 1 ∷ 2 ∷ 1 ∷ 3 ∷ 1 ∷ 4 ∷ 2 ∷ 3 ∷ 2 ∷ 4 ∷ 3 ∷ 4 ∷ [])
+    && same (worst_sheet mixed) (3 ∷ 4 ∷ 3 ∷ 1 ∷ 1 ∷ 3 ∷ 2 ∷ 0 ∷ 6 ∷ 1 ∷ 2 ∷ 1 ∷ 3 ∷ 1 ∷ 4 ∷ 2 ∷ 3 ∷ 2 ∷ 4 ∷ 3 ∷ 4 ∷ [])
+    && same (worst_sheet (0 ∷ 0 ∷ 0 ∷ [])) (0 ∷ 0 ∷ 0 ∷ [])
+    && same (best_sheet mixed) (3 ∷ 1 ∷ 3 ∷ 1 ∷ 1 ∷ 1 ∷ 2 ∷ 0 ∷ 0 ∷ []))
+unfolding for_each least sum packets_of place_of worst_slots chain_parent in_turn worst_sheet best_sheet
 computed = tt

@@ -6,10 +6,10 @@ use Prim.Native.Nat.{ℕ, zero, suc, ◌+◌, ◌*◌, ◌≤◌, ◌<◌}
 use native.Mathlib.Omega.{arith}
 use lib.ListN.{length, take, drop, length-append, length-drop, take-append-drop}
 use lib.Seq.{length-take-le}
-use Rattle.meaning.specs.Words.{forEach, sum, in_turn}
+use Rattle.meaning.specs.Words.{for_each, sum, in_turn}
 use Rattle.meaning.specs.Book.{counted}
 use Rattle.laws.proofs.InTurn.{sum-within}
-use Rattle.book.specs.Layout.{begun, allBegun}
+use Rattle.book.specs.Layout.{begun, all_begun}
 use Rattle.book.proofs.Entries.{filling, filling-length, filling-begun, parts-length, parts_cut, Room, making}
 
 -- an empty list, in the first part of its room
@@ -97,19 +97,19 @@ module _ (p : ℕ) (sent heard : ℕ → ℕ) (book : List ℕ) where
           ∙ sym (there (filling [] (drop 2 (second k))))
 
       entries-begun : (k : ℕ) → k ≤ p → (rest : List ℕ)
-          → forEach k (λ j now. begun (hears (j + 2)) (begun (sends (j + 2)) now)) (in_turn k region ++ rest) ≡ in_turn k empty ++ rest
-      unfolding forEach in_turn
+          → for_each k (λ j now. begun (hears (j + 2)) (begun (sends (j + 2)) now)) (in_turn k region ++ rest) ≡ in_turn k empty ++ rest
+      unfolding for_each in_turn
       entries-begun zero h rest = refl
       entries-begun (suc k) h rest =
-          ap (λ (x : List ℕ). begun (hears (k + 2)) (begun (sends (k + 2)) (forEach k (λ j now. begun (hears (j + 2)) (begun (sends (j + 2)) now)) x)))
+          ap (λ (x : List ℕ). begun (hears (k + 2)) (begun (sends (k + 2)) (for_each k (λ j now. begun (hears (j + 2)) (begun (sends (j + 2)) now)) x)))
           (append_assoc (in_turn k region) (region k) rest)
           ∙ ap (λ (x : List ℕ). begun (hears (k + 2)) (begun (sends (k + 2)) x)) (entries-begun k (omega arith) (region k ++ rest))
           ∙ entry-begun k (omega arith) rest
           ∙ sym (append_assoc (in_turn k empty) (empty k) rest)
 
-      pub all-begun : allBegun p sends hears book ≡ making p sent heard first-room second-room (drop (sum p size) book) (λ _. []) (λ _. [])
-      unfolding first-room second-room allBegun making
+      pub all-begun : all_begun p sends hears book ≡ making p sent heard first-room second-room (drop (sum p size) book) (λ _. []) (λ _. [])
+      unfolding first-room second-room all_begun making
       all-begun =
-          ap (λ (x : List ℕ). forEach p (λ j now. begun (hears (j + 2)) (begun (sends (j + 2)) now)) x)
+          ap (λ (x : List ℕ). for_each p (λ j now. begun (hears (j + 2)) (begun (sends (j + 2)) now)) x)
           (sym (take-append-drop (sum p size) book) ∙ ap (λ (x : List ℕ). x ++ drop (sum p size) book) (sym (parts_cut book size p)))
           ∙ entries-begun p (omega arith) (drop (sum p size) book)

@@ -11,32 +11,32 @@ use lib.ListN.{length, get_or, set, replicate, length-set, get_or-replicate, get
 use lib.Seq.{get_or-set_same, get_or-set_other, ext_get_or}
 use borrow.Author.Tests.{le-leb, lt-leb}
 use Rattle.meaning.specs.Words.{Node, places, tab, sum}
-use Rattle.meaning.specs.Yard.{isProbe, branchPackets}
-use Rattle.laws.proofs.Turns.{below-or-last, forEach-one, sum_one, length-tab, getD-tab, set-tab}
+use Rattle.meaning.specs.Yard.{is_probe, branch_packets}
+use Rattle.laws.proofs.Turns.{below-or-last, for_each-one, sum_one, length-tab, get_or-tab, set-tab}
 use Rattle.laws.proofs.Walk.{probe-yes, probe-below, probe-past}
-use Rattle.reader.specs.Noted.{twoSet}
-use Rattle.book.specs.Layout.{sendings, hearings, sendsAt, hearsAt, sendsOf, hearsOf, begun, allBegun}
+use Rattle.reader.specs.Noted.{two_set}
+use Rattle.book.specs.Layout.{sendings, hearings, sends_at, hears_at, sends_of, hears_of, begun, all_begun}
 
 -- by node, what the first k probes have; what is no probe, or comes later, has `end`
 abbrev pub so_far : (k : ℕ) → (f : ℕ → ℕ) → (end : ℕ) → Node → ℕ
-so_far k f end v = cond (isProbe k v) (f (v - 2)) end
+so_far k f end v = cond (is_probe k v) (f (v - 2)) end
 
 -- one probe more changes no other node
-same-probe : (k j : ℕ) → (j ≡ k + 2 → ⊥) → isProbe (k + 1) j ≡ isProbe k j
+same-probe : (k j : ℕ) → (j ≡ k + 2 → ⊥) → is_probe (k + 1) j ≡ is_probe k j
 same-probe k j other = low (dec_lt j 2)
   where
-    high : 2 ≤ j → Dec (j < k + 2) → isProbe (k + 1) j ≡ isProbe k j
+    high : 2 ≤ j → Dec (j < k + 2) → is_probe (k + 1) j ≡ is_probe k j
     high h (yes l) = probe-yes (k + 1) j h (omega arith) ∙ sym (probe-yes k j h (omega arith))
     high h (no l) = probe-past (k + 1) j (omega arith) ∙ sym (probe-past k j (omega arith))
 
-    low : Dec (j < 2) → isProbe (k + 1) j ≡ isProbe k j
+    low : Dec (j < 2) → is_probe (k + 1) j ≡ is_probe k j
     low (yes l) = probe-below (k + 1) j l ∙ sym (probe-below k j l)
     low (no l) = high (omega arith) (dec_lt j (k + 2))
 
-no-probe : (v : ℕ) → isProbe 0 v ≡ false
-no-probe v = go (dec_lt v 2)
+no_probe : (v : ℕ) → is_probe 0 v ≡ false
+no_probe v = go (dec_lt v 2)
   where
-    go : Dec (v < 2) → isProbe 0 v ≡ false
+    go : Dec (v < 2) → is_probe 0 v ≡ false
     go (yes l) = probe-below 0 v l
     go (no l) = probe-past 0 v (omega arith)
 
@@ -44,8 +44,8 @@ so-far-start : (f : ℕ → ℕ) (end : ℕ) → replicate places end ≡ tab pl
 so-far-start f end =
     ext_get_or 0 (replicate places end) (tab places (so_far 0 f end)) (sym (length-tab places (so_far 0 f end)))
     (λ i h.
-    get_or-replicate places i end 0 h ∙ ap (λ (b : Bool). cond b (f (i - 2)) end) (sym (no-probe i))
-    ∙ sym (getD-tab places (so_far 0 f end) i 0 h))
+    get_or-replicate places i end 0 h ∙ ap (λ (b : Bool). cond b (f (i - 2)) end) (sym (no_probe i))
+    ∙ sym (get_or-tab places (so_far 0 f end) i 0 h))
 
 so-far-next : (k : ℕ) (f : ℕ → ℕ) (end a : ℕ) (l : List ℕ) → k + 2 < places → a ≡ f k → l ≡ tab places (so_far k f end)
     → set l (k + 2) a ≡ tab places (so_far (k + 1) f end)
@@ -60,9 +60,9 @@ so-far-next k f end a l h e so =
 pub record Laid (p : ℕ) (parent packets : Node → ℕ) (end k : ℕ) (sends hears : List ℕ) (at : ℕ) : Type 0 where
   pub within : k ≤ p
   pub small : at ≤ 262144 * k
-  pub next : at ≡ sendsAt p parent packets k
-  pub own : sends ≡ tab places (so_far k (sendsAt p parent packets) end)
-  pub heard : hears ≡ tab places (so_far k (hearsAt p parent packets) end)
+  pub next : at ≡ sends_at p parent packets k
+  pub own : sends ≡ tab places (so_far k (sends_at p parent packets) end)
+  pub heard : hears ≡ tab places (so_far k (hears_at p parent packets) end)
 
 pub laid-start : (p : ℕ) (parent packets : Node → ℕ) (end : ℕ) → Laid p parent packets end 0 (replicate places end) (replicate places end) 0
 unfolding sum
@@ -71,12 +71,12 @@ laid-start p parent packets end =
       within = omega arith;
       small = omega arith;
       next = refl;
-      own = so-far-start (sendsAt p parent packets) end;
-      heard = so-far-start (hearsAt p parent packets) end;
+      own = so-far-start (sends_at p parent packets) end;
+      heard = so-far-start (hears_at p parent packets) end;
     }
 
 pub laid_next : (p : ℕ) (parent packets : Node → ℕ) (end k : ℕ) (sends hears : List ℕ) (at s h : ℕ) → Laid p parent packets end k sends hears at
-    → k < p → p ≤ 63 → s < 65536 → s ≡ branchPackets p parent packets (k + 2) → h ≡ s - packets (k + 2)
+    → k < p → p ≤ 63 → s < 65536 → s ≡ branch_packets p parent packets (k + 2) → h ≡ s - packets (k + 2)
     → Laid p parent packets end (k + 1) (set sends (k + 2) at) (set hears (k + 2) (at + 2 + 2 * s)) (at + 4 + 2 * s + 2 * h)
 laid_next p parent packets end k sends hears at s h b low few fits es eh =
     let entry : 4 + 2 * sendings p parent packets (k + 2) + 2 * hearings p parent packets (k + 2) ≡ 4 + 2 * s + 2 * h =
@@ -85,9 +85,9 @@ laid_next p parent packets end k sends hears at s h b low few fits es eh =
     record {
       within = omega arith;
       small = omega (arith, b.small);
-      next = together at (4 + 2 * s + 2 * h) s h b.next refl ∙ ap (λ (e : ℕ). sendsAt p parent packets k + e) (sym entry) ∙ sym one;
-      own = so-far-next k (sendsAt p parent packets) end at sends (omega arith) b.next b.own;
-      heard = so-far-next k (hearsAt p parent packets) end (at + 2 + 2 * s) hears (omega arith)
+      next = together at (4 + 2 * s + 2 * h) s h b.next refl ∙ ap (λ (e : ℕ). sends_at p parent packets k + e) (sym entry) ∙ sym one;
+      own = so-far-next k (sends_at p parent packets) end at sends (omega arith) b.next b.own;
+      heard = so-far-next k (hears_at p parent packets) end (at + 2 + 2 * s) hears (omega arith)
           (ap₂ (λ (a c : ℕ). a + 2 + 2 * c) b.next es) b.heard;
     }
   where
@@ -101,13 +101,13 @@ laid-all p parent packets end k sends hears at b h =
     subst (λ (i : ℕ). Laid p parent packets end i sends hears at) all b
 
 pub laid-sends : (p : ℕ) (parent packets : Node → ℕ) (end : ℕ) (sends hears : List ℕ) (at : ℕ) → Laid p parent packets end p sends hears at
-    → sends ≡ tab places (sendsOf p parent packets end)
-unfolding sendsOf
+    → sends ≡ tab places (sends_of p parent packets end)
+unfolding sends_of
 laid-sends p parent packets end sends hears at b = b.own
 
 pub laid-hears : (p : ℕ) (parent packets : Node → ℕ) (end : ℕ) (sends hears : List ℕ) (at : ℕ) → Laid p parent packets end p sends hears at
-    → hears ≡ tab places (hearsOf p parent packets end)
-unfolding hearsOf
+    → hears ≡ tab places (hears_of p parent packets end)
+unfolding hears_of
 laid-hears p parent packets end sends hears at b = b.heard
 
 -- a list begins only where it has room, and leaves a buffer as long as it was
@@ -115,7 +115,7 @@ pub no-begin : (place : ℕ) (book : List ℕ) → length book < place + 2 → b
 unfolding begun
 no-begin place book h = rw (lt-leb (place + 2) (length book) h)
 
-pub begin-there : (place : ℕ) (book : List ℕ) → place + 2 ≤ length book → begun place book ≡ twoSet place 0 book
+pub begin-there : (place : ℕ) (book : List ℕ) → place + 2 ≤ length book → begun place book ≡ two_set place 0 book
 unfolding begun
 begin-there place book h = rw (le-leb (place + 2) (length book) h)
 
@@ -123,17 +123,17 @@ pub begun-long : (place : ℕ) (book : List ℕ) → length (begun place book) �
 unfolding begun
 begun-long place book = go (leb (place + 2) (length book))
   where
-    go : (b : Bool) → length (cond b (twoSet place 0 book) book) ≡ length book
+    go : (b : Bool) → length (cond b (two_set place 0 book) book) ≡ length book
     go true = simp length-set
     go false = refl
 
 -- both lists of one probe more
-pub begin-next : (sends hears : Node → ℕ) (k : ℕ) (start book between after : List ℕ) → book ≡ allBegun k sends hears start
-    → between ≡ begun (sends (k + 2)) book → after ≡ begun (hears (k + 2)) between → after ≡ allBegun (k + 1) sends hears start
-unfolding allBegun
+pub begin-next : (sends hears : Node → ℕ) (k : ℕ) (start book between after : List ℕ) → book ≡ all_begun k sends hears start
+    → between ≡ begun (sends (k + 2)) book → after ≡ begun (hears (k + 2)) between → after ≡ all_begun (k + 1) sends hears start
+unfolding all_begun
 begin-next sends hears k start book between after so one two =
     two ∙ ap (begun (hears (k + 2))) (one ∙ ap (begun (sends (k + 2))) so)
-    ∙ sym (forEach-one k (λ j now. begun (hears (j + 2)) (begun (sends (j + 2)) now)) start)
+    ∙ sym (for_each-one k (λ j now. begun (hears (j + 2)) (begun (sends (j + 2)) now)) start)
 
 -- the places by sender, as far as node v: behind that there is nothing yet
 pub record Told (parents sends hears : List ℕ) (v : ℕ) (at : List ℕ) : Type 0 where

@@ -10,21 +10,21 @@ use lib.Dec.{eqb, ltb}
 use lib.ListN.{length, get_or, length-append}
 use borrow.Author.Tests.{eq-eqb, ne_eqb, lt-ltb}
 use Rattle.meaning.specs.Words.{some, sum, places}
-use Rattle.meaning.specs.Yard.{isProbe}
-use Rattle.meaning.specs.Sheet.{probeCount, parent_of}
+use Rattle.meaning.specs.Yard.{is_probe}
+use Rattle.meaning.specs.Sheet.{probe_count, parent_of}
 use Rattle.meaning.specs.Rounds.{moved}
-use Rattle.meaning.specs.Answer.{isAccepted, sheetTest}
-use Rattle.meaning.specs.Book.{someSender, slotsWhere}
+use Rattle.meaning.specs.Answer.{is_accepted, sheet_test}
+use Rattle.meaning.specs.Book.{some_sender, slots_where}
 use Rattle.meaning.specs.Legal.{Legal, RunsIn, Runs}
 use Rattle.laws.proofs.Turns.{some-where, some-found, none-some}
 use Rattle.laws.proofs.Walk.{not-both, probe-yes, probe-most, probe-at}
 use Rattle.laws.proofs.Slots.{true-or-false}
-use Rattle.limits.proofs.Sums.{forEach-counts}
+use Rattle.limits.proofs.Sums.{for_each-counts}
 use Rattle.limits.proofs.Exclusive.{Exclusive}
 use Rattle.limits.proofs.Fewest.{children-exclusive}
 use Rattle.limits.proofs.BookLength.{alone-exclusive}
 use Rattle.limits.proofs.AcceptedYard as Yard
-use Rattle.reader.specs.Noted.{noted, notedSender, notedSlot, notedSlots}
+use Rattle.reader.specs.Noted.{noted, noted_sender, noted_slot, noted_slots}
 use Rattle.book.proofs.OneList.{noted-end}
 use Rattle.book.proofs.Entries.{Room, Fit, OneMore, making, making-same, making-length, sends-noted, hears-noted}
 
@@ -51,15 +51,15 @@ module _ (s : List ℕ) (who : ℕ → ℕ) where
 
   -- the lists after these slots
   abbrev passed : (number : ℕ) → (slots : List (List ℕ)) → (lists : ℕ → List ℕ) → (k : ℕ) → List ℕ
-  passed number slots lists k = lists k ++ slotsWhere (someSender (test k)) number slots
+  passed number slots lists k = lists k ++ slots_where (some_sender (test k)) number slots
 
   -- a list has room on the way if it has in the end
-  on-the-way : (many : ℕ → ℕ) (number : ℕ) (slot : List ℕ) (slots : List (List ℕ)) (lists : ℕ → List ℕ) → Fit (probeCount s) many (passed number (slot ∷ slots) lists)
-      → (i : ℕ) → i ≤ length slot → Fit (probeCount s) many (after slot number lists i)
-  unfolding slotsWhere
+  on-the-way : (many : ℕ → ℕ) (number : ℕ) (slot : List ℕ) (slots : List (List ℕ)) (lists : ℕ → List ℕ) → Fit (probe_count s) many (passed number (slot ∷ slots) lists)
+      → (i : ℕ) → i ≤ length slot → Fit (probe_count s) many (after slot number lists i)
+  unfolding slots_where
   on-the-way many number slot slots lists fit i h k hk =
       let t : ℕ → Bool = λ j. test k (get_or slot j 0) in
-      let later : List ℕ = slotsWhere (someSender (test k)) (number + 1) slots in
+      let later : List ℕ = slots_where (some_sender (test k)) (number + 1) slots in
       omega (
         arith,
         fit k hk,
@@ -105,10 +105,10 @@ module _ (s : List ℕ) (who : ℕ → ℕ) where
           (λ (q : test k (get_or slot j 0) ≡ false). q)
           (true-or-false (test k (get_or slot j 0))))
 
-      one_more : isProbe (probeCount s) (who (get_or slot i 0)) ≡ true
-          → OneMore (probeCount s) number (who (get_or slot i 0) - 2) (after slot number lists i) (after slot number lists (suc i))
+      one_more : is_probe (probe_count s) (who (get_or slot i 0)) ≡ true
+          → OneMore (probe_count s) number (who (get_or slot i 0) - 2) (after slot number lists i) (after slot number lists (suc i))
       one_more probe =
-          let there = probe-at (probeCount s) (who (get_or slot i 0)) probe in
+          let there = probe-at (probe_count s) (who (get_or slot i 0)) probe in
           let k : ℕ = who (get_or slot i 0) - 2 in
           record {
             within = there.0;
@@ -116,124 +116,124 @@ module _ (s : List ℕ) (who : ℕ → ℕ) where
             others = λ j hj other. stays j (λ e. other (omega arith));
           }
 
-    none_more : isProbe (probeCount s) (who (get_or slot i 0)) ≡ false
-        → (k : ℕ) → k < probeCount s → after slot number lists i k ≡ after slot number lists (suc i) k
+    none_more : is_probe (probe_count s) (who (get_or slot i 0)) ≡ false
+        → (k : ℕ) → k < probe_count s → after slot number lists i k ≡ after slot number lists (suc i) k
     none_more none k h =
         sym
         (stays k
         (λ e.
-        not-both (probe-yes (probeCount s) (k + 2) (omega arith) (omega arith)) (subst (λ (u : ℕ). isProbe (probeCount s) u ≡ false) e none)))
+        not-both (probe-yes (probe_count s) (k + 2) (omega arith) (omega arith)) (subst (λ (u : ℕ). is_probe (probe_count s) u ≡ false) e none)))
 
 -- where the lists of each sender stand: its own, and its parent's, if that is a probe
 pub record Placed (s : List ℕ) (sent heard : ℕ → ℕ) (end : ℕ) (at : List ℕ) : Type 0 where
-  pub sends : (v : ℕ) → isProbe (probeCount s) v ≡ true → get_or at (2 * v) 0 ≡ sum (v - 2) (λ k. 4 + 2 * sent k + 2 * heard k)
-  pub hears : (v : ℕ) → isProbe (probeCount s) v ≡ true → isProbe (probeCount s) (parent_of s v) ≡ true
+  pub sends : (v : ℕ) → is_probe (probe_count s) v ≡ true → get_or at (2 * v) 0 ≡ sum (v - 2) (λ k. 4 + 2 * sent k + 2 * heard k)
+  pub hears : (v : ℕ) → is_probe (probe_count s) v ≡ true → is_probe (probe_count s) (parent_of s v) ≡ true
       → get_or at (2 * v + 1) 0 ≡ sum (parent_of s v - 2) (λ k. 4 + 2 * sent k + 2 * heard k) + 2 + 2 * sent (parent_of s v - 2)
-  pub gateway : (v : ℕ) → isProbe (probeCount s) v ≡ true → isProbe (probeCount s) (parent_of s v) ≡ false → get_or at (2 * v + 1) 0 ≡ end
+  pub gateway : (v : ℕ) → is_probe (probe_count s) v ≡ true → is_probe (probe_count s) (parent_of s v) ≡ false → get_or at (2 * v + 1) 0 ≡ end
 
-module _ (s : List ℕ) (ok : isAccepted (sheetTest s) ≡ true) (sent heard : ℕ → ℕ) (a : Room (probeCount s) sent) (b : Room (probeCount s) heard)
-    (tail at : List ℕ) (placed : Placed s sent heard (sum (probeCount s) (λ k. 4 + 2 * sent k + 2 * heard k) + length tail) at) where
+module _ (s : List ℕ) (ok : is_accepted (sheet_test s) ≡ true) (sent heard : ℕ → ℕ) (a : Room (probe_count s) sent) (b : Room (probe_count s) heard)
+    (tail at : List ℕ) (placed : Placed s sent heard (sum (probe_count s) (λ k. 4 + 2 * sent k + 2 * heard k) + length tail) at) where
   abbrev book : (l m : ℕ → List ℕ) → List ℕ
-  book = making (probeCount s) sent heard a b tail
+  book = making (probe_count s) sent heard a b tail
 
   abbrev own : ℕ → ℕ
   own u = u
 
   module _ (held : List ℕ) (number : ℕ) (slot : List ℕ) (slots : List (List ℕ)) (legal : Legal s held slot) (l m : ℕ → List ℕ)
-      (fit : Fit (probeCount s) sent (passed s own number (slot ∷ slots) l))
-      (fit₂ : Fit (probeCount s) heard (passed s (parent_of s) number (slot ∷ slots) m)) where
-    abbrev ownAfter : ℕ → ℕ → List ℕ
-    ownAfter = after s own slot number l
+      (fit : Fit (probe_count s) sent (passed s own number (slot ∷ slots) l))
+      (fit₂ : Fit (probe_count s) heard (passed s (parent_of s) number (slot ∷ slots) m)) where
+    abbrev own_after : ℕ → ℕ → List ℕ
+    own_after = after s own slot number l
 
-    abbrev heardAfter : ℕ → ℕ → List ℕ
-    heardAfter = after s (parent_of s) slot number m
+    abbrev heard_after : ℕ → ℕ → List ℕ
+    heard_after = after s (parent_of s) slot number m
 
-    fits : (i : ℕ) → i ≤ length slot → Fit (probeCount s) sent (ownAfter i)
+    fits : (i : ℕ) → i ≤ length slot → Fit (probe_count s) sent (own_after i)
     fits = on-the-way s own sent number slot slots l fit
 
-    fits₂ : (i : ℕ) → i ≤ length slot → Fit (probeCount s) heard (heardAfter i)
+    fits₂ : (i : ℕ) → i ≤ length slot → Fit (probe_count s) heard (heard_after i)
     fits₂ = on-the-way s (parent_of s) heard number slot slots m fit₂
 
     module _ (i : ℕ) (hi : i < length slot) where
       abbrev u : ℕ
       u = get_or slot i 0
 
-      own-noted : noted (get_or at (2 * u) 0) number (book (ownAfter i) (heardAfter i)) ≡ book (ownAfter (suc i)) (heardAfter i)
+      own-noted : noted (get_or at (2 * u) 0) number (book (own_after i) (heard_after i)) ≡ book (own_after (suc i)) (heard_after i)
       own-noted =
           let probe = legal.probes i hi in
           let more = one_more s own number slot l i (λ k. alone-exclusive s (k + 2)) held legal hi probe in
-          ap (λ (k : ℕ). noted k number (book (ownAfter i) (heardAfter i))) (placed.sends u probe)
-          ∙ sends-noted (probeCount s) sent heard a b tail (ownAfter i) (heardAfter i) (fits i (omega arith)) (fits₂ i (omega arith)) (ownAfter (suc i)) number (u - 2)
+          ap (λ (k : ℕ). noted k number (book (own_after i) (heard_after i))) (placed.sends u probe)
+          ∙ sends-noted (probe_count s) sent heard a b tail (own_after i) (heard_after i) (fits i (omega arith)) (fits₂ i (omega arith)) (own_after (suc i)) number (u - 2)
           more
           (omega (
             arith,
             fits (suc i) hi (u - 2) more.within,
             ap length more.more,
-            length-append (ownAfter i (u - 2)) (number ∷ []),
+            length-append (own_after i (u - 2)) (number ∷ []),
           ))
 
-      heard-noted : noted (get_or at (2 * u + 1) 0) number (book (ownAfter (suc i)) (heardAfter i)) ≡ book (ownAfter (suc i)) (heardAfter (suc i))
+      heard-noted : noted (get_or at (2 * u + 1) 0) number (book (own_after (suc i)) (heard_after i)) ≡ book (own_after (suc i)) (heard_after (suc i))
       heard-noted =
           let probe = legal.probes i hi in
           ⊎_elim
-          (λ (up : isProbe (probeCount s) (parent_of s u) ≡ true).
+          (λ (up : is_probe (probe_count s) (parent_of s u) ≡ true).
           let k : ℕ = parent_of s u - 2 in
           let more = one_more s (parent_of s) number slot m i (λ k. children-exclusive s ok (k + 2)) held legal hi up in
-          ap (λ (k : ℕ). noted k number (book (ownAfter (suc i)) (heardAfter i))) (placed.hears u probe up)
-          ∙ hears-noted (probeCount s) sent heard a b tail (ownAfter (suc i)) (heardAfter i) (fits (suc i) hi) (fits₂ i (omega arith)) (heardAfter (suc i)) number k
+          ap (λ (k : ℕ). noted k number (book (own_after (suc i)) (heard_after i))) (placed.hears u probe up)
+          ∙ hears-noted (probe_count s) sent heard a b tail (own_after (suc i)) (heard_after i) (fits (suc i) hi) (fits₂ i (omega arith)) (heard_after (suc i)) number k
           more
           (omega (
             arith,
             fits₂ (suc i) hi k more.within,
             ap length more.more,
-            length-append (heardAfter i k) (number ∷ []),
+            length-append (heard_after i k) (number ∷ []),
           )))
-          (λ (none : isProbe (probeCount s) (parent_of s u) ≡ false).
-          noted-end (get_or at (2 * u + 1) 0) number (book (ownAfter (suc i)) (heardAfter i))
+          (λ (none : is_probe (probe_count s) (parent_of s u) ≡ false).
+          noted-end (get_or at (2 * u + 1) 0) number (book (own_after (suc i)) (heard_after i))
           (omega (
             arith,
             placed.gateway u probe none,
-            making-length (probeCount s) sent heard a b tail (ownAfter (suc i)) (heardAfter i) (fits (suc i) hi) (fits₂ i (omega arith)),
+            making-length (probe_count s) sent heard a b tail (own_after (suc i)) (heard_after i) (fits (suc i) hi) (fits₂ i (omega arith)),
           ))
-          ∙ making-same (probeCount s) sent heard a b tail (ownAfter (suc i)) (ownAfter (suc i)) (heardAfter i) (heardAfter (suc i)) (λ _ _. refl)
+          ∙ making-same (probe_count s) sent heard a b tail (own_after (suc i)) (own_after (suc i)) (heard_after i) (heard_after (suc i)) (λ _ _. refl)
           (none_more s (parent_of s) number slot m i none))
-          (true-or-false (isProbe (probeCount s) (parent_of s u)))
+          (true-or-false (is_probe (probe_count s) (parent_of s u)))
 
-      sender-noted : notedSender at number u (book (ownAfter i) (heardAfter i)) ≡ book (ownAfter (suc i)) (heardAfter (suc i))
-      unfolding notedSender
+      sender-noted : noted_sender at number u (book (own_after i) (heard_after i)) ≡ book (own_after (suc i)) (heard_after (suc i))
+      unfolding noted_sender
       sender-noted =
           let probe = legal.probes i hi in
-          let node : ltb u places ≡ true = lt-ltb u places (omega (arith, probe-most (probeCount s) u probe, Yard.few s ok)) in
+          let node : ltb u places ≡ true = lt-ltb u places (omega (arith, probe-most (probe_count s) u probe, Yard.few s ok)) in
           ap
           (λ (t : Bool).
-          cond t (noted (get_or at (2 * u + 1) 0) number (noted (get_or at (2 * u) 0) number (book (ownAfter i) (heardAfter i)))) (book (ownAfter i) (heardAfter i)))
+          cond t (noted (get_or at (2 * u + 1) 0) number (noted (get_or at (2 * u) 0) number (book (own_after i) (heard_after i)))) (book (own_after i) (heard_after i)))
           node
           ∙ ap (noted (get_or at (2 * u + 1) 0) number) own-noted
           ∙ heard-noted
 
-    slot-noted : notedSlot at number slot (book l m) ≡ book (ownAfter (length slot)) (heardAfter (length slot))
-    unfolding notedSlot some
+    slot-noted : noted_slot at number slot (book l m) ≡ book (own_after (length slot)) (heard_after (length slot))
+    unfolding noted_slot some
     slot-noted =
-        forEach-counts (λ i now. now ≡ book (ownAfter i) (heardAfter i)) (length slot) (λ i. notedSender at number (get_or slot i 0)) (book l m)
-        (making-same (probeCount s) sent heard a b tail l (ownAfter 0) m (heardAfter 0) (λ k _. sym (append-nil (l k))) (λ k _. sym (append-nil (m k))))
-        (λ i hi now e. ap (notedSender at number (get_or slot i 0)) e ∙ sender-noted i hi)
+        for_each-counts (λ i now. now ≡ book (own_after i) (heard_after i)) (length slot) (λ i. noted_sender at number (get_or slot i 0)) (book l m)
+        (making-same (probe_count s) sent heard a b tail l (own_after 0) m (heard_after 0) (λ k _. sym (append-nil (l k))) (λ k _. sym (append-nil (m k))))
+        (λ i hi now e. ap (noted_sender at number (get_or slot i 0)) e ∙ sender-noted i hi)
 
   pub slots-noted : (held : List ℕ) (number : ℕ) (slots : List (List ℕ)) → Runs s held slots → (l m : ℕ → List ℕ)
-      → Fit (probeCount s) sent (passed s own number slots l) → Fit (probeCount s) heard (passed s (parent_of s) number slots m)
-      → notedSlots at number slots (book l m) ≡ book (passed s own number slots l) (passed s (parent_of s) number slots m)
-  unfolding RunsIn notedSlots slotsWhere
+      → Fit (probe_count s) sent (passed s own number slots l) → Fit (probe_count s) heard (passed s (parent_of s) number slots m)
+      → noted_slots at number slots (book l m) ≡ book (passed s own number slots l) (passed s (parent_of s) number slots m)
+  unfolding RunsIn noted_slots slots_where
   slots-noted held number [] runs l m fit fit₂ =
-      making-same (probeCount s) sent heard a b tail l (passed s own number [] l) m (passed s (parent_of s) number [] m) (λ k _. sym (append-nil (l k)))
+      making-same (probe_count s) sent heard a b tail l (passed s own number [] l) m (passed s (parent_of s) number [] m) (λ k _. sym (append-nil (l k)))
       (λ k _. sym (append-nil (m k)))
   slots-noted held number (slot ∷ slots) runs l m fit fit₂ =
       let l' : ℕ → List ℕ = after s own slot number l (length slot) in
       let m' : ℕ → List ℕ = after s (parent_of s) slot number m (length slot) in
       let same : (k : ℕ) → passed s own (number + 1) slots l' k ≡ passed s own number (slot ∷ slots) l k =
-      λ k. append_assoc (l k) (one number (someSender (test s own k) slot)) (slotsWhere (someSender (test s own k)) (number + 1) slots) in
+      λ k. append_assoc (l k) (one number (some_sender (test s own k) slot)) (slots_where (some_sender (test s own k)) (number + 1) slots) in
       let same₂ : (k : ℕ) → passed s (parent_of s) (number + 1) slots m' k ≡ passed s (parent_of s) number (slot ∷ slots) m k =
-      λ k. append_assoc (m k) (one number (someSender (test s (parent_of s) k) slot)) (slotsWhere (someSender (test s (parent_of s) k)) (number + 1) slots) in
-      ap (notedSlots at (number + 1) slots) (slot-noted held number slot slots runs.0 l m fit fit₂)
+      λ k. append_assoc (m k) (one number (some_sender (test s (parent_of s) k) slot)) (slots_where (some_sender (test s (parent_of s) k)) (number + 1) slots) in
+      ap (noted_slots at (number + 1) slots) (slot-noted held number slot slots runs.0 l m fit fit₂)
       ∙ slots-noted (moved (parent_of s) slot held) (number + 1) slots runs.1 l' m' (λ k h. omega (arith, fit k h, ap length (same k)))
       (λ k h. omega (arith, fit₂ k h, ap length (same₂ k)))
-      ∙ making-same (probeCount s) sent heard a b tail (passed s own (number + 1) slots l') (passed s own number (slot ∷ slots) l)
+      ∙ making-same (probe_count s) sent heard a b tail (passed s own (number + 1) slots l') (passed s own number (slot ∷ slots) l)
       (passed s (parent_of s) (number + 1) slots m') (passed s (parent_of s) number (slot ∷ slots) m) (λ k _. same k) (λ k _. same₂ k)

@@ -1,9 +1,9 @@
 // The wake book: from a sheet and a plan that the judge passes, in which slots each probe sends and in which it hears a child.
 ghost use Rattle.std.specs.Prelude.{◌≡◌, ℕ, ◌+◌, ◌-◌, ◌*◌, ◌≤◌, ◌<◌, length, get_or};
-ghost use Rattle.meaning.specs.Words.{byNode, tab, places};
+ghost use Rattle.meaning.specs.Words.{by_node, tab, places};
 ghost use Rattle.meaning.specs.Plan.{front};
-ghost use Rattle.meaning.specs.Book.{bookMade};
-ghost use Rattle.book.specs.Layout.{sendsAt, sendsOf, hearsOf, begun, allBegun, refusedBook};
+ghost use Rattle.meaning.specs.Book.{book_made};
+ghost use Rattle.book.specs.Layout.{sends_at, sends_of, hears_of, begun, all_begun, refused_book};
 
 use meaning::{Booked, Names, Outcome, Probe};
 
@@ -30,9 +30,9 @@ fn hearings(sendings: u16, own: u8) -> usize
 // Where each list of p probes is to stand; what is no probe has its lists at the end, where nothing has room.
 fn laid_out(p: u8, parents: [u8; 65], packets: [u8; 65], end: usize) -> Layout
     requires { p ≤ 63 }
-    ensures lists { (result.sends ≡ tab places (sendsOf p (byNode parents) (byNode packets) end))
-        × (result.hears ≡ tab places (hearsOf p (byNode parents) (byNode packets) end)) }
-    ensures bytes { result.bytes ≡ sendsAt p (byNode parents) (byNode packets) p }
+    ensures lists { (result.sends ≡ tab places (sends_of p (by_node parents) (by_node packets) end))
+        × (result.hears ≡ tab places (hears_of p (by_node parents) (by_node packets) end)) }
+    ensures bytes { result.bytes ≡ sends_at p (by_node parents) (by_node packets) p }
 {
     let mut sends = [end; 65];
     let mut hears = [end; 65];
@@ -71,7 +71,7 @@ fn begin(place: usize, book: &mut [u8])
 // Both lists of each of p probes, empty.
 fn begin_all(p: u8, sends: &[usize; 65], hears: &[usize; 65], book: &mut [u8])
     requires { p ≤ 63 }
-    ensures { book.new ≡ allBegun p (byNode sends.now) (byNode hears.now) book.old }
+    ensures { book.new ≡ all_begun p (by_node sends.now) (by_node hears.now) book.old }
 {
     let mut k: u8 = 0;
     while k < p {
@@ -102,7 +102,7 @@ fn by_sender(parents: [u8; 65], sends: [usize; 65], hears: [usize; 65]) -> [usiz
 
 // What a refusal answers: its outcome, whom it names, and no bytes.
 fn refused(outcome: Outcome, names: Names) -> Booked
-    ensures { result ≡ refusedBook outcome names }
+    ensures { result ≡ refused_book outcome names }
 {
     Booked {
         outcome,
@@ -113,8 +113,8 @@ fn refused(outcome: Outcome, names: Names) -> Booked
 
 // Writes the wake book of a plan that the judge passes at the start of a buffer, or refuses; a refusal writes nothing.
 pub fn wake_book(sheet: &[u8], plan: &[u8], book: &mut [u8]) -> Booked
-    ensures answer { result ≡ (bookMade sheet.now plan.now (length book.old)).answer }
-    ensures buffer { book.new ≡ front book.old (bookMade sheet.now plan.now (length book.old)).written }
+    ensures answer { result ≡ (book_made sheet.now plan.now (length book.old)).answer }
+    ensures buffer { book.new ≡ front book.old (book_made sheet.now plan.now (length book.old)).written }
 {
     let judged = judge::judgement(sheet, plan);
     let verdict = judged.verdict;

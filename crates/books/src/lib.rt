@@ -1,8 +1,8 @@
 // Wake books by the program's arguments: a plan's book written to a file, or said in words, a line for each probe.
 ghost use Rattle.std.specs.Prelude.{◌≡◌, length, replicate};
 ghost use Rattle.io.specs.Counts.{IsPrefixLen};
-ghost use Rattle.meaning.specs.Book.{anyBook, bookMade};
-ghost use Rattle.files.specs.Status.{statusOf, OrFailed};
+ghost use Rattle.meaning.specs.Book.{any_book, book_made};
+ghost use Rattle.files.specs.Status.{status_of, OrFailed};
 
 use files::{ANSWERED, FAILED, within};
 use libc::STDOUT_FILENO;
@@ -13,15 +13,15 @@ const ANY_WORDS: usize = 361000;
 
 // Room for any wake book; all zeros.
 fn book_room() -> [u8; meaning::ANY_BOOK]
-    ensures zeros { result ≡ replicate anyBook 0 }
-    ensures long { anyBook ≡ length result }
+    ensures zeros { result ≡ replicate any_book 0 }
+    ensures long { any_book ≡ length result }
 {
     [0; meaning::ANY_BOOK]
 }
 
 // Says why there is no book, in the judge's words.
 fn say_refused(to: i32, booked: Booked) -> u8
-    ensures { OrFailed (statusOf booked.outcome) result }
+    ensures { OrFailed (status_of booked.outcome) result }
 {
     let outcome = booked.outcome;
     let names = booked.names;
@@ -33,7 +33,7 @@ fn say_refused(to: i32, booked: Booked) -> u8
 
 // Writes the book of a plan to its file, and says how long it is; a refusal leaves the file alone.
 pub fn write_book(to: i32, out: usize, sheet: &[u8], plan: &[u8]) -> u8
-    ensures { OrFailed (statusOf (bookMade sheet.now plan.now anyBook).answer.outcome) result }
+    ensures { OrFailed (status_of (book_made sheet.now plan.now any_book).answer.outcome) result }
 {
     let mut book = book_room();
     let booked = book::wake_book(sheet, plan, &mut book);
@@ -72,7 +72,7 @@ fn put_lines(book: &[u8], text: &mut [u8]) -> usize
 
 // Says the book of a plan, a line for each probe.
 pub fn say_book(sheet: &[u8], plan: &[u8]) -> u8
-    ensures { OrFailed (statusOf (bookMade sheet.now plan.now anyBook).answer.outcome) result }
+    ensures { OrFailed (status_of (book_made sheet.now plan.now any_book).answer.outcome) result }
 {
     let mut book = book_room();
     let booked = book::wake_book(sheet, plan, &mut book);

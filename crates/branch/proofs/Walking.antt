@@ -9,14 +9,14 @@ use native.Mathlib.Omega.{arith}
 use borrow.Author.Tests.{ne_eqb}
 use lib.Dec.{eqb}
 use lib.ListN.{length, get_or, get_or-eq_default}
-use Rattle.meaning.specs.Yard.{reaches, lagOn, branchPackets, branchLag}
+use Rattle.meaning.specs.Yard.{reaches, lag_on, branch_packets, branch_lag}
 use Rattle.meaning.specs.Words.{places, sum, most}
 use Rattle.laws.proofs.Turns.{same-or-other, sum_one, sum_same, sum-constant, most-one}
 use Rattle.laws.proofs.Walk.{reaches-on, lag-here, lag-on}
 use Rattle.laws.proofs.Levels.{most-holds, most-within}
 use Rattle.branch.specs.declared.Weighed.{Weighed}
 use Rattle.branch.specs.declared.Weighed.TheVariants.{Packets, WithLag, AtTop}
-use Rattle.branch.specs.Weight.{weightOf}
+use Rattle.branch.specs.Weight.{weight_of}
 
 module _ (parent : ℕ → ℕ) (top : ℕ) where
   -- with no hop left only the node itself counts
@@ -46,19 +46,19 @@ module _ (parent : ℕ → ℕ) (top : ℕ) where
 
   module _ (packets : ℕ → ℕ) where
     -- with no hop left the lag is what it is
-    pub lag-last : (left lag v whole : ℕ) → left ≤ 0 → lagOn parent packets top left lag v ≡ whole → lag ≡ whole
-    unfolding lagOn
+    pub lag-last : (left lag v whole : ℕ) → left ≤ 0 → lag_on parent packets top left lag v ≡ whole → lag ≡ whole
+    unfolding lag_on
     lag-last left lag v whole h e =
         let none : left ≡ 0 = omega arith in
-        ap (λ (n : ℕ). lagOn parent packets top n lag v) (sym none) ∙ e
+        ap (λ (n : ℕ). lag_on parent packets top n lag v) (sym none) ∙ e
 
     -- a hop adds one, and the node that it comes to takes its packets away
     pub lag-next : (left lag v u taken next whole : ℕ) → 0 < left → (v ≡ top → ⊥) → u ≡ parent v → taken ≡ packets u → next ≡ lag + 1 - taken
-        → lagOn parent packets top left lag v ≡ whole → lagOn parent packets top (left - 1) next u ≡ whole
+        → lag_on parent packets top left lag v ≡ whole → lag_on parent packets top (left - 1) next u ≡ whole
     lag-next left lag v u taken next whole h ne at t n e =
         let more : suc (left - 1) ≡ left = omega arith in
-        ap₂ (lagOn parent packets top (left - 1)) (n ∙ ap (λ (x : ℕ). lag + 1 - x) (t ∙ ap packets at)) at
-        ∙ sym (lag-on parent packets top (left - 1) lag v ne) ∙ ap (λ (n : ℕ). lagOn parent packets top n lag v) more ∙ e
+        ap₂ (lag_on parent packets top (left - 1)) (n ∙ ap (λ (x : ℕ). lag + 1 - x) (t ∙ ap packets at)) at
+        ∙ sym (lag-on parent packets top (left - 1) lag v ne) ∙ ap (λ (n : ℕ). lag_on parent packets top n lag v) more ∙ e
 
 -- the most so far and one more
 pub most-next : (i : ℕ) (f : ℕ → ℕ) (a b c : ℕ) → a ≡ most i f → b ≡ f i → c ≡ max a b → c ≡ most (i + 1) f
@@ -86,42 +86,42 @@ past_end list long v h = get_or-eq_default list 0 (omega arith)
 
 -- what a probe off the top brings, its parent tells
 module _ (parent packets : ℕ → ℕ) (top : ℕ) where
-  abbrev lagFrom : ℕ → ℕ → ℕ → ℕ
-  lagFrom hops lag v = cond (reaches parent top hops v) (lagOn parent packets top hops lag v) 0
+  abbrev lag_from : ℕ → ℕ → ℕ → ℕ
+  lag_from hops lag v = cond (reaches parent top hops v) (lag_on parent packets top hops lag v) 0
 
-  lag-alike : (hops u v : ℕ) → (u ≡ top → ⊥) → (v ≡ top → ⊥) → parent u ≡ parent v → lagFrom hops 0 u ≡ lagFrom hops 0 v
+  lag-alike : (hops u v : ℕ) → (u ≡ top → ⊥) → (v ≡ top → ⊥) → parent u ≡ parent v → lag_from hops 0 u ≡ lag_from hops 0 v
   unfolding reaches
   lag-alike zero u v nu nv e = rw (ne_eqb u top nu, ne_eqb v top nv)
-  lag-alike (suc hops) u v nu nv e = on u nu ∙ ap (λ (w : ℕ). lagFrom hops (0 + 1 - packets w) w) e ∙ sym (on v nv)
+  lag-alike (suc hops) u v nu nv e = on u nu ∙ ap (λ (w : ℕ). lag_from hops (0 + 1 - packets w) w) e ∙ sym (on v nv)
     where
-      on : (v : ℕ) → (v ≡ top → ⊥) → lagFrom (suc hops) 0 v ≡ lagFrom hops (0 + 1 - packets (parent v)) (parent v)
+      on : (v : ℕ) → (v ≡ top → ⊥) → lag_from (suc hops) 0 v ≡ lag_from hops (0 + 1 - packets (parent v)) (parent v)
       on v ne = ap₂ (λ (b : Bool) (x : ℕ). cond b x 0) (reaches-on parent top hops v ne) (lag-on parent packets top hops 0 v ne)
 
 module _ (parents packets : List ℕ) (long : length parents ≡ places) (p top : ℕ) (byte : top < 256) where
-  abbrev lagBy : ℕ → ℕ
-  lagBy i = lagFrom (λ u. get_or parents u 0) (λ u. get_or packets u 0) top p 0 (i + 2)
+  abbrev lag_by : ℕ → ℕ
+  lag_by i = lag_from (λ u. get_or parents u 0) (λ u. get_or packets u 0) top p 0 (i + 2)
 
   -- 256 goes on from node 0, as 65 and 66 do, and one of those two is not the top
-  pub lag-past : (k best : ℕ) → 254 ≤ k → best ≡ most k lagBy → best ≡ most (k + 1) lagBy
+  pub lag-past : (k best : ℕ) → 254 ≤ k → best ≡ most k lag_by → best ≡ most (k + 1) lag_by
   lag-past k best h e =
-      most-stays k lagBy best e
+      most-stays k lag_by best e
       (⊎_elim (λ (at : top ≡ 65). like 64 (omega arith) (omega arith) (λ at-66. omega arith)) (λ (off : top ≡ 65 → ⊥). like 63 (omega arith) (omega arith) (λ at. off (sym at)))
       (same-or-other top 65))
     where
-      like : (j : ℕ) → 63 ≤ j → j < k → (j + 2 ≡ top → ⊥) → lagBy k ≤ most k lagBy
+      like : (j : ℕ) → 63 ≤ j → j < k → (j + 2 ≡ top → ⊥) → lag_by k ≤ most k lag_by
       like j low less off =
           let same-parent = past_end parents long (k + 2) (omega arith) ∙ sym (past_end parents long (j + 2) (omega arith)) in
-          omega (arith, most-holds k lagBy j less, lag-alike (λ u. get_or parents u 0) (λ u. get_or packets u 0) top p (k + 2) (j + 2) (λ at. omega arith) off same-parent)
+          omega (arith, most-holds k lag_by j less, lag-alike (λ u. get_or parents u 0) (λ u. get_or packets u 0) top p (k + 2) (j + 2) (λ at. omega arith) off same-parent)
 
 module _ (parents packets : List ℕ) (long : length packets ≡ places) (p : ℕ) where
   abbrev parent : ℕ → ℕ
   parent v = get_or parents v 0
 
-  abbrev packetsOf : ℕ → ℕ
-  packetsOf v = get_or packets v 0
+  abbrev packets_of : ℕ → ℕ
+  packets_of v = get_or packets v 0
 
-  pub sum_past : (top k all : ℕ) → 63 ≤ k → all ≡ sum k (λ i. cond (reaches parent top p (i + 2)) (packetsOf (i + 2)) 0)
-      → all ≡ sum (k + 1) (λ i. cond (reaches parent top p (i + 2)) (packetsOf (i + 2)) 0)
+  pub sum_past : (top k all : ℕ) → 63 ≤ k → all ≡ sum k (λ i. cond (reaches parent top p (i + 2)) (packets_of (i + 2)) 0)
+      → all ≡ sum (k + 1) (λ i. cond (reaches parent top p (i + 2)) (packets_of (i + 2)) 0)
   sum_past top k all h e = sym (add-zero all) ∙ ap₂ ◌+◌ e (sym (brings-zero (reaches parent top p (k + 2)) _ (past_end packets long (k + 2) (omega arith)))) ∙ sym (sum_one k _)
 
   -- no walk comes to a top that is no byte, so that its branch has no packets and no lag
@@ -137,18 +137,18 @@ module _ (parents packets : List ℕ) (long : length packets ≡ places) (p : �
         (λ (ne : v ≡ top → ⊥). ap (λ (b : Bool). cond b x 0) (never p v ne))
         (same-or-other v top)
 
-    no-packets : branchPackets p parent packetsOf top ≡ 0
+    no-packets : branch_packets p parent packets_of top ≡ 0
     no-packets =
         sum_same p _ (λ _. 0) (λ k _. brings-never (k + 2) _ (λ e. past_end packets long (k + 2) (omega arith))) ∙ sum-constant p 0 ∙ mul-zero p
 
-    no-lag : branchLag p parent packetsOf top ≤ 0
-    no-lag = most-within p _ 0 (λ k _. omega (arith, brings-never (k + 2) _ (lag-here parent packetsOf top p 0 (k + 2))))
+    no-lag : branch_lag p parent packets_of top ≤ 0
+    no-lag = most-within p _ 0 (λ k _. omega (arith, brings-never (k + 2) _ (lag-here parent packets_of top p 0 (k + 2))))
 
-    weightless : (what : Weighed) → weightOf what p parent packetsOf top ≡ 0
+    weightless : (what : Weighed) → weight_of what p parent packets_of top ≡ 0
     weightless Packets = no-packets
     weightless WithLag = omega (arith, no-packets, no-lag)
     weightless AtTop = omega (arith, no-packets)
 
-  pub most-past : ((v : ℕ) → parent v < 256) → (what : Weighed) (k best : ℕ) → 254 ≤ k → best ≡ most k (λ i. weightOf what p parent packetsOf (i + 2))
-      → best ≡ most (k + 1) (λ i. weightOf what p parent packetsOf (i + 2))
+  pub most-past : ((v : ℕ) → parent v < 256) → (what : Weighed) (k best : ℕ) → 254 ≤ k → best ≡ most k (λ i. weight_of what p parent packets_of (i + 2))
+      → best ≡ most (k + 1) (λ i. weight_of what p parent packets_of (i + 2))
   most-past bytes what k best h e = most-stays k _ best e (omega (arith, weightless bytes (k + 2) (omega arith) what))

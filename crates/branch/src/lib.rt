@@ -1,8 +1,8 @@
 // The packets of a yard, of its heaviest branch, of its slowest one with the lag, and the fewest slots of any plan. Tables are by node; outside them every number is 0.
 ghost use Rattle.std.specs.Prelude.{◌≡◌, cond, ◌-◌, ◌*◌, ◌≤◌, max, length, get_or};
-ghost use Rattle.meaning.specs.Words.{places, sumProbes, mostProbes, byNode};
-ghost use Rattle.meaning.specs.Yard.{reaches, lagOn, branchPackets, branchLag, heaviestOf, slowestOf, leastSlotsOf};
-ghost use Rattle.branch.specs.Weight.{weightOf};
+ghost use Rattle.meaning.specs.Words.{places, sum_probes, most_probes, by_node};
+ghost use Rattle.meaning.specs.Yard.{reaches, lag_on, branch_packets, branch_lag, heaviest_of, slowest_of, least_slots_of};
+ghost use Rattle.branch.specs.Weight.{weight_of};
 
 use meaning::Probe;
 
@@ -16,7 +16,7 @@ enum Weighed {
 
 // All packets of the p probes.
 pub fn all_packets(p: u8, packets: &[u8; 65]) -> u16
-    ensures { result ≡ sumProbes p (byNode packets.now) }
+    ensures { result ≡ sum_probes p (by_node packets.now) }
 {
     let mut all: u16 = 0;
     let mut k: u8 = 0;
@@ -29,7 +29,7 @@ pub fn all_packets(p: u8, packets: &[u8; 65]) -> u16
 
 // Whether the walk to parents from v comes to top, in at most so many hops.
 fn comes_to(parents: &[u8; 65], top: Probe, hops: u8, v: Probe) -> bool
-    ensures { result ≡ reaches (byNode parents.now) top.0 hops v.0 }
+    ensures { result ≡ reaches (by_node parents.now) top.0 hops v.0 }
 {
     let end = top.0 as usize;
     let mut node = v.0 as usize;
@@ -50,7 +50,7 @@ fn comes_to(parents: &[u8; 65], top: Probe, hops: u8, v: Probe) -> bool
 
 // The packets that v brings to the branch of top.
 fn brought(p: u8, parents: &[u8; 65], packets: &[u8; 65], top: Probe, v: Probe) -> u8
-    ensures { result ≡ cond (reaches (byNode parents.now) top.0 p v.0) (get_or packets.now v.0 0) 0 }
+    ensures { result ≡ cond (reaches (by_node parents.now) top.0 p v.0) (get_or packets.now v.0 0) 0 }
 {
     if comes_to(parents, top, p, v) {
         return laws::number_at(packets, v.0 as usize);
@@ -61,7 +61,7 @@ fn brought(p: u8, parents: &[u8; 65], packets: &[u8; 65], top: Probe, v: Probe) 
 // The packets of the branch of top; a probe past the table's end has none.
 fn branch(p: u8, parents: &[u8; 65], packets: &[u8; 65], top: Probe) -> u16
     requires { length packets.now ≡ places }
-    ensures { (result ≡ branchPackets p (byNode parents.now) (byNode packets.now) top.0) × (result ≤ 255 * 63) }
+    ensures { (result ≡ branch_packets p (by_node parents.now) (by_node packets.now) top.0) × (result ≤ 255 * 63) }
 {
     let mut all: u16 = 0;
     let mut k: u8 = 0;
@@ -86,7 +86,7 @@ fn less(from: u8, taken: u8) -> u8
 
 // The lag of the walk to parents from v when it comes to top; each hop adds at most one, so that it is never more than the hops.
 fn lag_on(parents: &[u8; 65], packets: &[u8; 65], top: Probe, hops: u8, v: Probe) -> u8
-    ensures { result ≡ lagOn (byNode parents.now) (byNode packets.now) top.0 hops 0 v.0 }
+    ensures { result ≡ lag_on (by_node parents.now) (by_node packets.now) top.0 hops 0 v.0 }
 {
     let end = top.0 as usize;
     let mut node = v.0 as usize;
@@ -105,8 +105,8 @@ fn lag_on(parents: &[u8; 65], packets: &[u8; 65], top: Probe, hops: u8, v: Probe
 
 // The lag that v brings to the branch of top.
 fn lag_brought(parents: &[u8; 65], packets: &[u8; 65], top: Probe, hops: u8, v: Probe) -> u8
-    ensures { result ≡ cond (reaches (byNode parents.now) top.0 hops v.0)
-        (lagOn (byNode parents.now) (byNode packets.now) top.0 hops 0 v.0) 0 }
+    ensures { result ≡ cond (reaches (by_node parents.now) top.0 hops v.0)
+        (lag_on (by_node parents.now) (by_node packets.now) top.0 hops 0 v.0) 0 }
 {
     if comes_to(parents, top, hops, v) {
         return lag_on(parents, packets, top, hops, v);
@@ -127,7 +127,7 @@ fn larger(a: u16, b: u16) -> u16
 // The lag of the branch of top; 256, the last of 255 probes, is no byte, and goes on from node 0 as 65 and 66 do.
 fn branch_lag(p: u8, parents: &[u8; 65], packets: &[u8; 65], top: Probe) -> u16
     requires { length parents.now ≡ places }
-    ensures { (result ≡ branchLag p (byNode parents.now) (byNode packets.now) top.0) × (result ≤ 255) }
+    ensures { (result ≡ branch_lag p (by_node parents.now) (by_node packets.now) top.0) × (result ≤ 255) }
 {
     let mut most: u16 = 0;
     let mut k: u8 = 0;
@@ -159,7 +159,7 @@ fn hears_and_sends(all: u16, packets: &[u8; 65], top: Probe) -> u16
 // What the branch of top weighs.
 fn weight(p: u8, parents: &[u8; 65], packets: &[u8; 65], what: Weighed, top: Probe) -> u16
     requires { (length parents.now ≡ places) × (length packets.now ≡ places) }
-    ensures { result ≡ weightOf what p (byNode parents.now) (byNode packets.now) top.0 }
+    ensures { result ≡ weight_of what p (by_node parents.now) (by_node packets.now) top.0 }
 {
     let all = branch(p, parents, packets, top);
     match what {
@@ -171,7 +171,7 @@ fn weight(p: u8, parents: &[u8; 65], packets: &[u8; 65], what: Weighed, top: Pro
 
 // The most that a branch weighs, 0 with no probes; no walk comes to 256, the last of 255 probes, which is no byte.
 fn most_weight(p: u8, parents: [u8; 65], packets: [u8; 65], what: Weighed) -> u16
-    ensures { result ≡ mostProbes p (weightOf what p (byNode parents) (byNode packets)) }
+    ensures { result ≡ most_probes p (weight_of what p (by_node parents) (by_node packets)) }
 {
     let mut best: u16 = 0;
     let mut k: u8 = 0;
@@ -186,28 +186,28 @@ fn most_weight(p: u8, parents: [u8; 65], packets: [u8; 65], what: Weighed) -> u1
 
 // The packets of the branch of top.
 pub fn in_branch(p: u8, parents: [u8; 65], packets: [u8; 65], top: Probe) -> u16
-    ensures { result ≡ branchPackets p (byNode parents) (byNode packets) top.0 }
+    ensures { result ≡ branch_packets p (by_node parents) (by_node packets) top.0 }
 {
     branch(p, &parents, &packets, top)
 }
 
 // The packets of the heaviest branch, 0 with no probes.
 pub fn heaviest(p: u8, parents: [u8; 65], packets: [u8; 65]) -> u16
-    ensures { result ≡ heaviestOf p (byNode parents) (byNode packets) }
+    ensures { result ≡ heaviest_of p (by_node parents) (by_node packets) }
 {
     most_weight(p, parents, packets, Weighed::Packets)
 }
 
 // The packets and the lag of the slowest branch, 0 with no probes.
 pub fn slowest(p: u8, parents: [u8; 65], packets: [u8; 65]) -> u16
-    ensures { result ≡ slowestOf p (byNode parents) (byNode packets) }
+    ensures { result ≡ slowest_of p (by_node parents) (by_node packets) }
 {
     most_weight(p, parents, packets, Weighed::WithLag)
 }
 
 // The fewest slots of any plan: all packets, or more where a probe hears and sends more; 0 with no probes.
 pub fn least_slots(p: u8, parents: [u8; 65], packets: [u8; 65]) -> u16
-    ensures { result ≡ leastSlotsOf p (byNode parents) (byNode packets) }
+    ensures { result ≡ least_slots_of p (by_node parents) (by_node packets) }
 {
     let all = all_packets(p, &packets);
     larger(all, most_weight(p, parents, packets, Weighed::AtTop))

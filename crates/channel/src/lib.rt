@@ -1,9 +1,9 @@
 // Which channel each parent listens on: parents by falling number of children, each gets the channel with the least children so far.
 ghost use mathlib.Core.Path.{◌≡◌};
 ghost use Prim.Native.Nat.{◌+◌, ◌<◌, ◌≤◌};
-ghost use Rattle.meaning.specs.Words.{tab, places, byNode};
+ghost use Rattle.meaning.specs.Words.{tab, places, by_node};
 ghost use Rattle.meaning.specs.Order.{better, next_of};
-ghost use Rattle.meaning.specs.Channel.{childrenOf, loadOn, leastLoaded, listenersBy};
+ghost use Rattle.meaning.specs.Channel.{children_of, load_on, least_loaded, listeners_by};
 
 // A byte as a place.
 fn place(x: u8) -> usize
@@ -22,7 +22,7 @@ fn load_of(x: u8) -> u16
 // The children of each node.
 fn children(p: u8, parents: &[u8; 65]) -> [u8; 65]
     requires { p ≤ 63 }
-    ensures { result ≡ tab places (childrenOf p (byNode parents.now)) }
+    ensures { result ≡ tab places (children_of p (by_node parents.now)) }
 {
     let mut out = [0u8; 65];
     let mut k: u8 = 0;
@@ -72,7 +72,7 @@ fn next(children: &[u8; 65], listens: &[u8; 65], p: u8) -> usize
 // The children that the parents on a channel have together, so far.
 fn load_on(children: &[u8; 65], listens: &[u8; 65], p: u8, channel: u8) -> u16
     requires { p ≤ 63 }
-    ensures { result ≡ loadOn p children.now listens.now channel }
+    ensures { result ≡ load_on p children.now listens.now channel }
 {
     let mut sum: u16 = 0;
     let n = p as usize + 2;
@@ -89,7 +89,7 @@ fn load_on(children: &[u8; 65], listens: &[u8; 65], p: u8, channel: u8) -> u16
 // The channel with the least children so far, ties the lowest.
 fn least_loaded(children: &[u8; 65], listens: &[u8; 65], p: u8, many: u8) -> u8
     requires { (p ≤ 63) × (1 ≤ many) × (many ≤ 16) }
-    ensures { result ≡ leastLoaded p many children.now listens.now }
+    ensures { result ≡ least_loaded p many children.now listens.now }
 {
     let mut best: u8 = 1;
     let mut least = load_on(children, listens, p, 1);
@@ -108,7 +108,7 @@ fn least_loaded(children: &[u8; 65], listens: &[u8; 65], p: u8, many: u8) -> u8
 // The channel of each node, 0 of what is none.
 pub fn listeners(p: u8, parents: &[u8; 65], many: u8) -> [u8; 65]
     requires { (p ≤ 63) × (1 ≤ many) × (many ≤ 16) }
-    ensures { result ≡ listenersBy p (byNode parents.now) many }
+    ensures { result ≡ listeners_by p (by_node parents.now) many }
 {
     let children = children(p, parents);
     let mut listens = [0u8; 65];

@@ -1,13 +1,13 @@
 // The chooser: a sheet and two lent plans in, the shorter passed plan itself out.
 ghost use Rattle.std.specs.Prelude.{◌≡◌};
-ghost use Rattle.meaning.specs.Judge.{chooseBy, choice, handedBack};
+ghost use Rattle.meaning.specs.Judge.{choose_by, choice, handed_back};
 ghost use Rattle.chooser.specs.Handed.{Handed};
 
 use meaning::{Choice, Verdict};
 
 // The passed one with fewer slots, the first when equal.
 fn choose_by(first: Verdict, second: Verdict) -> Choice
-    ensures { result ≡ chooseBy first second }
+    ensures { result ≡ choose_by first second }
 {
     let a = first.outcome;
     let b = second.outcome;
@@ -38,7 +38,7 @@ pub fn choice(sheet: &[u8], first: &[u8], second: &[u8]) -> Choice
 // That plan itself; the empty part at the start of the first where none passes.
 pub fn choose<'a>(sheet: &[u8], first: &'a [u8], second: &'a [u8]) -> &'a [u8]
     ensures bytes { result.now
-        ≡ handedBack (choice sheet.now first.now second.now) first.now second.now }
+        ≡ handed_back (choice sheet.now first.now second.now) first.now second.now }
     ensures itself { Handed (choice sheet.now first.now second.now) first.entry second.entry result }
 {
     match choice(sheet, first, second) {

@@ -8,18 +8,18 @@ use native.Mathlib.Numerals.{add-one}
 use native.Mathlib.Omega.{arith}
 use lib.ListN.{length, get_or, set}
 use lib.Seq.{get_or-set_same, get_or-set_other, set-get_or}
-use Rattle.meaning.specs.Words.{forEach, tab, places}
+use Rattle.meaning.specs.Words.{for_each, tab, places}
 use Rattle.meaning.specs.Rounds.{clashes, joins, joined}
 use Rattle.laws.proofs.Slots.{never}
 use Rattle.laws.proofs.Joining.{joined-long}
-use Rattle.laws.proofs.Turns.{below-or-last, forEach-one, tab-same, getD-tab}
-use Rattle.chosen.specs.Kept.{blockedBy, NextFree}
+use Rattle.laws.proofs.Turns.{below-or-last, for_each-one, tab-same, get_or-tab}
+use Rattle.chosen.specs.Kept.{blocked_by, NextFree}
 use Rattle.chosen.proofs.Taking.{some-set, flag-final}
 use Rattle.chosen.proofs.Writing.{Writing, writing_pass}
 
 -- the owners, and who may and conflicts with none chosen when the first k probes have had their turn
-abbrev pub freeBy : (ℕ → ℕ → Bool) → (ℕ → Bool) → List Bool → ℕ → List Bool
-freeBy relation may owners k = tab places (λ v. get_or owners v false || may v && not (clashes relation (joined k relation may owners) v))
+abbrev pub free_by : (ℕ → ℕ → Bool) → (ℕ → Bool) → List Bool → ℕ → List Bool
+free_by relation may owners k = tab places (λ v. get_or owners v false || may v && not (clashes relation (joined k relation may owners) v))
 
 module _ (relation : ℕ → ℕ → Bool) (may : ℕ → Bool) (owners : List Bool) (long : length owners ≡ places) where
   abbrev after : ℕ → List Bool
@@ -28,19 +28,19 @@ module _ (relation : ℕ → ℕ → Bool) (may : ℕ → Bool) (owners : List B
   abbrev can : ℕ → ℕ → Bool
   can k v = may v && not (clashes relation (after k) v)
 
-  pub free-start : (blocked free : List Bool) → blocked ≡ blockedBy relation owners
-      → free ≡ tab places (λ v. get_or owners v false || may v && not (get_or blocked v false)) → free ≡ freeBy relation may owners 0
-  unfolding joined forEach
+  pub free-start : (blocked free : List Bool) → blocked ≡ blocked_by relation owners
+      → free ≡ tab places (λ v. get_or owners v false || may v && not (get_or blocked v false)) → free ≡ free_by relation may owners 0
+  unfolding joined for_each
   free-start blocked free knows made =
       made
       ∙ tab-same places (λ v. get_or owners v false || may v && not (get_or blocked v false)) (λ v. get_or owners v false || can 0 v)
       (λ v h.
       ap (λ (b : Bool). get_or owners v false || may v && not b)
-      (ap (λ (l : List Bool). get_or l v false) knows ∙ getD-tab places (clashes relation owners) v false h))
+      (ap (λ (l : List Bool). get_or l v false) knows ∙ get_or-tab places (clashes relation owners) v false h))
 
   -- before its turn a probe is chosen only if it is an owner
   untouched : (k v : ℕ) → k + 2 ≤ v → get_or (after k) v false ≡ get_or owners v false
-  unfolding joined forEach
+  unfolding joined for_each
   untouched zero v h = refl
   untouched (suc k) v h = other (can k (k + 2)) ∙ untouched k v (omega arith)
     where
@@ -50,11 +50,11 @@ module _ (relation : ℕ → ℕ → Bool) (may : ℕ → Bool) (owners : List B
 
   one_more : (k : ℕ) → after (k + 1) ≡ cond (can k (k + 2)) (set (after k) (k + 2) true) (after k)
   unfolding joined
-  one_more k = forEach-one k (λ j. joins relation may (j + 2)) owners
+  one_more k = for_each-one k (λ j. joins relation may (j + 2)) owners
 
-  module _ (k : ℕ) (small : k + 2 < places) (free : List Bool) (is : free ≡ freeBy relation may owners k) where
+  module _ (k : ℕ) (small : k + 2 < places) (free : List Bool) (is : free ≡ free_by relation may owners k) where
     at : (v : ℕ) → v < places → get_or free v false ≡ (get_or owners v false || can k v)
-    at v h = ap (λ (l : List Bool). get_or l v false) is ∙ getD-tab places (λ u. get_or owners u false || can k u) v false h
+    at v h = ap (λ (l : List Bool). get_or l v false) is ∙ get_or-tab places (λ u. get_or owners u false || can k u) v false h
 
     -- whether the probe whose turn it is sends
     pub free-says : (p : ℕ) → k < p → get_or (after p) (k + 2) false ≡ get_or free (k + 2) false
@@ -67,7 +67,7 @@ module _ (relation : ℕ → ℕ → Bool) (may : ℕ → Bool) (owners : List B
         go false = untouched k (k + 2) (omega arith) ∙ sym (or-false (get_or owners (k + 2) false))
 
     -- it does not: nobody is shut
-    pub free-pass : get_or free (k + 2) false ≡ false → free ≡ freeBy relation may owners (k + 1)
+    pub free-pass : get_or free (k + 2) false ≡ false → free ≡ free_by relation may owners (k + 1)
     free-pass e =
         is
         ∙ ap (λ (l : List Bool). tab places (λ v. get_or owners v false || may v && not (clashes relation l v)))
@@ -99,7 +99,7 @@ module _ (relation : ℕ → ℕ → Bool) (may : ℕ → Bool) (owners : List B
 
       -- and whom it conflicts with is shut
       pub free-put : (row free' : List Bool) → ((v : ℕ) → get_or row v false ≡ relation (k + 2) v)
-          → free' ≡ tab places (λ v. get_or owners v false || get_or free v false && not (get_or row v false)) → free' ≡ freeBy relation may owners (k + 1)
+          → free' ≡ tab places (λ v. get_or owners v false || get_or free v false && not (get_or row v false)) → free' ≡ free_by relation may owners (k + 1)
       free-put row free' says made =
           made
           ∙ tab-same places (λ v. get_or owners v false || get_or free v false && not (get_or row v false)) (λ v. get_or owners v false || can (k + 1) v)
@@ -117,7 +117,7 @@ module _ (relation : ℕ → ℕ → Bool) (may : ℕ → Bool) (owners : List B
   -- places that are not free change nothing: at the next free place the senders so far, and who is free, are those at k
   module _ (p : ℕ) (few : p ≤ 63) (d rest : List ℕ) (free : List Bool) (n k : ℕ) where
     abbrev SoFar : ℕ → Type 0
-    SoFar j = Writing (λ v. get_or (after p) v false) p d rest n j × (free ≡ freeBy relation may owners j)
+    SoFar j = Writing (λ v. get_or (after p) v false) p d rest n j × (free ≡ free_by relation may owners j)
 
     skip-one : (j : ℕ) → j < p → get_or free (j + 2) false ≡ false → SoFar j → SoFar (j + 1)
     skip-one j h e now =

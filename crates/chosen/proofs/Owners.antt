@@ -9,10 +9,10 @@ use native.Mathlib.Omega.{arith}
 use borrow.Author.Tests.{eqb-true, ne_eqb, lt-ltb, le-ltb}
 use lib.Dec.{eqb, ltb}
 use lib.ListN.{length, get_or, set}
-use Rattle.meaning.specs.Words.{forEach, tab, places}
-use Rattle.meaning.specs.Yard.{isProbe}
-use Rattle.meaning.specs.Rounds.{clashes, joins, joined, ownersByProbe, ownersByLevel}
-use Rattle.laws.proofs.Turns.{forEach-same, none-some, tab-same, getD-places, set-tab, same-or-other}
+use Rattle.meaning.specs.Words.{for_each, tab, places}
+use Rattle.meaning.specs.Yard.{is_probe}
+use Rattle.meaning.specs.Rounds.{clashes, joins, joined, owners_by_probe, owners_by_level}
+use Rattle.laws.proofs.Turns.{for_each-same, none-some, tab-same, get_or-places, set-tab, same-or-other}
 use Rattle.laws.proofs.Walk.{probe-below, probe-past}
 use Rattle.laws.proofs.Slots.{Only, only-joined, and_left, and_right, never}
 use Rattle.laws.proofs.Joining.{joined-long, nobody-chosen}
@@ -30,7 +30,7 @@ less-or-not a b = go (dec_lt a b)
     go (no l) = inr (omega arith)
 
 module _ (p : ℕ) (relation : ℕ → ℕ → Bool) (colour : ℕ → ℕ) (s : ℕ) (may : ℕ → Bool) (small : p ≤ 63) (given : 1 ≤ s)
-    (apart : (x y : ℕ) → relation x y ≡ true → colour x ≡ colour y → ⊥) (none : (v : ℕ) → isProbe p v ≡ false → colour v ≡ 0) where
+    (apart : (x y : ℕ) → relation x y ≡ true → colour x ≡ colour y → ⊥) (none : (v : ℕ) → is_probe p v ≡ false → colour v ≡ 0) where
   -- who has the colour and may send
   abbrev mine : ℕ → Bool
   mine v = eqb (colour v) s && may v
@@ -42,11 +42,11 @@ module _ (p : ℕ) (relation : ℕ → ℕ → Bool) (colour : ℕ → ℕ) (s :
   has : (v : ℕ) → mine v ≡ true → colour v ≡ s
   has v m = eqb-true (colour v) s (and_left (eqb (colour v) s) (may v) m)
 
-  not-mine : (v : ℕ) → isProbe p v ≡ false → mine v ≡ false
+  not-mine : (v : ℕ) → is_probe p v ≡ false → mine v ≡ false
   not-mine v e = ap (λ (b : Bool). b && may v) (ne_eqb (colour v) s (λ q. omega (arith, none v e, q)))
 
   flag : (k x : ℕ) → get_or (tab places (first k)) x false ≡ first k x
-  flag k = getD-places (first k) false (λ j hj. ap (λ (t : Bool). t && ltb j (k + 2)) (not-mine j (probe-past p j (omega arith))))
+  flag k = get_or-places (first k) false (λ j hj. ap (λ (t : Bool). t && ltb j (k + 2)) (not-mine j (probe-past p j (omega arith))))
 
   -- one of the colour conflicts with none of it
   clear : (k : ℕ) → k + 2 < places → mine (k + 2) ≡ true → clashes relation (tab places (first k)) (k + 2) ≡ false
@@ -62,7 +62,7 @@ module _ (p : ℕ) (relation : ℕ → ℕ → Bool) (colour : ℕ → ℕ) (s :
           ap (λ (t : Bool). t && relation x (k + 2)) (flag k x ∙ ap (λ (t : Bool). t && ltb x (k + 2)) mx)
 
   all-taken : (k : ℕ) → k ≤ p → joined k relation mine nobody ≡ tab places (first k)
-  unfolding joined forEach
+  unfolding joined for_each
   all-taken zero h =
       begins ∙ tab-same places (λ _. false) (first 0) (λ v hv. sym (two v))
     where
@@ -104,8 +104,8 @@ module _ (p : ℕ) (relation : ℕ → ℕ → Bool) (colour : ℕ → ℕ) (s :
           (same-or-other j (k + 2)))
 
   -- taken one by one, they are all of them
-  pub one_by_one : ownersByLevel p relation colour s may ≡ ownersByProbe colour s may
-  unfolding ownersByLevel ownersByProbe
+  pub one_by_one : owners_by_level p relation colour s may ≡ owners_by_probe colour s may
+  unfolding owners_by_level owners_by_probe
   one_by_one =
       all-taken p (omega arith)
       ∙ tab-same places (first p) mine
@@ -121,24 +121,24 @@ pub joined_same : (p : ℕ) (relation : ℕ → ℕ → Bool) (a b : ℕ → Boo
     → joined p relation a chosen ≡ joined p relation b chosen
 unfolding joined
 joined_same p relation a b chosen same =
-    forEach-same p (λ k. joins relation a (k + 2)) (λ k. joins relation b (k + 2)) chosen
+    for_each-same p (λ k. joins relation a (k + 2)) (λ k. joins relation b (k + 2)) chosen
     (λ k h now. ap (λ (c : Bool). cond (c && not (clashes relation now (k + 2))) (set now (k + 2) true) now) (same k h))
 
 pub owners-same : (p : ℕ) (relation : ℕ → ℕ → Bool) (a b : ℕ → ℕ) (s : ℕ) (may : ℕ → Bool) → ((k : ℕ) → k < p → a (k + 2) ≡ b (k + 2))
-    → ownersByLevel p relation a s may ≡ ownersByLevel p relation b s may
-unfolding ownersByLevel
+    → owners_by_level p relation a s may ≡ owners_by_level p relation b s may
+unfolding owners_by_level
 owners-same p relation a b s may same =
     joined_same p relation (λ v. eqb (a v) s && may v) (λ v. eqb (b v) s && may v) nobody (λ k h. ap (λ (c : ℕ). eqb c s && may (k + 2)) (same k h))
 
 module _ (p : ℕ) (relation : ℕ → ℕ → Bool) (own : ℕ → ℕ) (s : ℕ) (may : ℕ → Bool) where
-  pub owners-long : length (ownersByLevel p relation own s may) ≡ places
-  unfolding ownersByLevel
+  pub owners-long : length (owners_by_level p relation own s may) ≡ places
+  unfolding owners_by_level
   owners-long = joined-long relation (λ v. eqb (own v) s && may v) p nobody
 
   -- who owns the slot has its colour and may send
-  pub owner-may : Only (λ v. eqb (own v) s && may v) (ownersByLevel p relation own s may)
-  unfolding ownersByLevel
+  pub owner-may : Only (λ v. eqb (own v) s && may v) (owners_by_level p relation own s may)
+  unfolding owners_by_level
   owner-may = only-joined p relation (λ v. eqb (own v) s && may v) nobody (λ u h. never (sym (nobody-chosen places u) ∙ h))
 
-  pub only-owners : Only may (ownersByLevel p relation own s may)
+  pub only-owners : Only may (owners_by_level p relation own s may)
   only-owners v e = and_right (eqb (own v) s) (may v) (owner-may v e)

@@ -8,10 +8,10 @@ use native.Mathlib.Nat.{not-suc-le-zero}
 use native.Mathlib.Omega.{arith}
 use lib.ListN.{length, get_or, set}
 use lib.Seq.{get_or-set_same, get_or-set_other}
-use Rattle.meaning.specs.Words.{forEach, some, tab, places}
+use Rattle.meaning.specs.Words.{for_each, some, tab, places}
 use Rattle.meaning.specs.Rounds.{clashes, joins, joined}
-use Rattle.chosen.specs.Kept.{blockedBy, Considered, Joining}
-use Rattle.laws.proofs.Turns.{below-or-last, forEach-one, some_same, tab-same, getD-tab}
+use Rattle.chosen.specs.Kept.{blocked_by, Considered, Joining}
+use Rattle.laws.proofs.Turns.{below-or-last, for_each-one, some_same, tab-same, get_or-tab}
 
 -- one more is chosen: it blocks all that it conflicts with
 pub some-set : (n : ℕ) (relation : ℕ → ℕ → Bool) (chosen : List Bool) (v i : ℕ) → v < n → v < length chosen
@@ -46,10 +46,10 @@ some-set (suc n) relation chosen v i h hl =
     absorb false false b = refl
 
 module _ (relation : ℕ → ℕ → Bool) (may : ℕ → Bool) (v : ℕ) (chosen blocked : List Bool) (h : v < places) (long : length chosen ≡ places)
-    (knows : blocked ≡ blockedBy relation chosen) where
+    (knows : blocked ≡ blocked_by relation chosen) where
   -- what `blocked` says of v
   known : get_or blocked v false ≡ clashes relation chosen v
-  known = ap (λ (l : List Bool). get_or l v false) knows ∙ getD-tab places (clashes relation chosen) v false h
+  known = ap (λ (l : List Bool). get_or l v false) knows ∙ get_or-tab places (clashes relation chosen) v false h
 
   skipped : (may v && not (clashes relation chosen v)) ≡ false → Considered relation may v chosen chosen blocked
   skipped e = record { chose = sym (ap (λ (b : Bool). cond b (set chosen v true) chosen) e); knows = knows }
@@ -73,13 +73,13 @@ module _ (relation : ℕ → ℕ → Bool) (may : ℕ → Bool) (v : ℕ) (chose
             q
             ∙ tab-same places (λ i. get_or blocked i false || get_or row i false) (clashes relation (set chosen v true))
             (λ i hi.
-            ap₂ ◌||◌ (ap (λ (l : List Bool). get_or l i false) knows ∙ getD-tab places (clashes relation chosen) i false hi) (r i)
+            ap₂ ◌||◌ (ap (λ (l : List Bool). get_or l i false) knows ∙ get_or-tab places (clashes relation chosen) i false hi) (r i)
             ∙ sym (some-set places relation chosen v i h (omega arith)));
       }
 
 module _ (relation : ℕ → ℕ → Bool) (may : ℕ → Bool) (before : List Bool) where
-  pub joining-start : (blocked : List Bool) → blocked ≡ blockedBy relation before → Joining relation may before 0 before blocked
-  unfolding forEach joined
+  pub joining-start : (blocked : List Bool) → blocked ≡ blocked_by relation before → Joining relation may before 0 before blocked
+  unfolding for_each joined
   joining-start blocked e = record { chose = refl; knows = e }
 
   -- the turn of probe k + 2
@@ -88,13 +88,13 @@ module _ (relation : ℕ → ℕ → Bool) (may : ℕ → Bool) (before : List B
   unfolding joined
   joining-next k chosen blocked now chosen' blocked' turn =
       record {
-        chose = turn.chose ∙ ap (joins relation may (k + 2)) now.chose ∙ sym (forEach-one k (λ j. joins relation may (j + 2)) before);
+        chose = turn.chose ∙ ap (joins relation may (k + 2)) now.chose ∙ sym (for_each-one k (λ j. joins relation may (j + 2)) before);
         knows = turn.knows;
       }
 
   -- the flag of a probe that has had its turn stays as it is
   pub flag-final : (k p : ℕ) → k < p → get_or (joined (k + 1) relation may before) (k + 2) false ≡ get_or (joined p relation may before) (k + 2) false
-  unfolding joined forEach
+  unfolding joined for_each
   flag-final k zero h = absurd (not-suc-le-zero h)
   flag-final k (suc p) h =
       ⊎_elim

@@ -8,7 +8,7 @@ use native.Mathlib.Omega.{arith}
 use borrow.Author.Tests.{lt-ltb, le-ltb}
 use lib.ListN.{length, get_or, take, drop, set, length-append, length-take, length-set}
 use lib.Seq.{drop-cons, set_at, drop-set-lt, take-suc, take_all}
-use Rattle.meaning.specs.Words.{probesThat}
+use Rattle.meaning.specs.Words.{probes_that}
 use Rattle.meaning.specs.Plan.{front}
 use Rattle.laws.proofs.Lists.{length_front}
 use Rattle.chosen.specs.TurnSlot.{whole}
@@ -34,19 +34,19 @@ pub front-over : (d : List ℕ) (a x : ℕ) (xs : List ℕ) → front (set d 0 a
 front-over d a x xs = ap (λ (l : List ℕ). (x ∷ xs) ++ l) (drop-set-lt (suc (length xs)) d 0 a (omega arith))
 
 module _ (test : ℕ → Bool) where
-  pub probes-pass : (k : ℕ) → test (k + 2) ≡ false → probesThat (k + 1) test ≡ probesThat k test
-  unfolding probesThat
-  probes-pass k e = rw (add-one k) (ap (λ (b : Bool). probesThat k test ++ cond b ((k + 2) ∷ []) []) e ∙ append-nil (probesThat k test))
+  pub probes-pass : (k : ℕ) → test (k + 2) ≡ false → probes_that (k + 1) test ≡ probes_that k test
+  unfolding probes_that
+  probes-pass k e = rw (add-one k) (ap (λ (b : Bool). probes_that k test ++ cond b ((k + 2) ∷ []) []) e ∙ append-nil (probes_that k test))
 
-  pub probes-put : (k : ℕ) → test (k + 2) ≡ true → probesThat (k + 1) test ≡ probesThat k test ++ ((k + 2) ∷ [])
-  unfolding probesThat
-  probes-put k e = rw (add-one k) (ap (λ (b : Bool). probesThat k test ++ cond b ((k + 2) ∷ []) []) e)
+  pub probes-put : (k : ℕ) → test (k + 2) ≡ true → probes_that (k + 1) test ≡ probes_that k test ++ ((k + 2) ∷ [])
+  unfolding probes_that
+  probes-put k e = rw (add-one k) (ap (λ (b : Bool). probes_that k test ++ cond b ((k + 2) ∷ []) []) e)
 
-  pub probes-few : (k : ℕ) → length (probesThat k test) ≤ k
-  unfolding probesThat
+  pub probes-few : (k : ℕ) → length (probes_that k test) ≤ k
+  unfolding probes_that
   probes-few zero = omega arith
   probes-few (suc k) =
-      omega (arith, probes-few k, length-append (probesThat k test) (cond (test (k + 2)) ((k + 2) ∷ []) []), last (test (k + 2)))
+      omega (arith, probes-few k, length-append (probes_that k test) (cond (test (k + 2)) ((k + 2) ∷ []) []), last (test (k + 2)))
     where
       last : (b : Bool) → length (cond b ((k + 2) ∷ []) []) ≤ 1
       last true = omega arith
@@ -56,11 +56,11 @@ module _ (test : ℕ → Bool) where
   pub record Writing (p : ℕ) (d rest : List ℕ) (n k : ℕ) : Type 0 where
     pub within : k ≤ p
     pub room : p < length d
-    pub counted : n ≡ length (probesThat k test)
-    pub wrote : rest ≡ front d (0 ∷ probesThat k test)
+    pub counted : n ≡ length (probes_that k test)
+    pub wrote : rest ≡ front d (0 ∷ probes_that k test)
 
   pub writing_start : (p : ℕ) (d : List ℕ) → p < length d → Writing p (set d 0 0) (set d 0 0) 0 0
-  unfolding probesThat
+  unfolding probes_that
   writing_start p d h =
       record {
         within = omega arith;
@@ -76,7 +76,7 @@ module _ (test : ℕ → Bool) where
     pub long : length rest ≡ length d
     long =
         ap length now.wrote
-        ∙ length_front d (0 ∷ probesThat k test) (omega (arith, probes-few k, now.room, now.within))
+        ∙ length_front d (0 ∷ probes_that k test) (omega (arith, probes-few k, now.room, now.within))
 
   module _ (p : ℕ) (d rest : List ℕ) (n k : ℕ) (now : Writing p d rest n k) (h : k < p) where
     pub writing_pass : test (k + 2) ≡ false → Writing p d rest n (k + 1)
@@ -90,25 +90,25 @@ module _ (test : ℕ → Bool) where
 
     pub writing-put : test (k + 2) ≡ true → Writing p d (set rest (n + 1) (k + 2)) (n + 1) (k + 1)
     writing-put e =
-        let at : n + 1 ≡ length (0 ∷ probesThat k test) = ap (λ (j : ℕ). j + 1) now.counted ∙ add-one (length (probesThat k test)) in
+        let at : n + 1 ≡ length (0 ∷ probes_that k test) = ap (λ (j : ℕ). j + 1) now.counted ∙ add-one (length (probes_that k test)) in
         record {
           within = omega arith;
           room = now.room;
-          counted = ap (λ (j : ℕ). j + 1) now.counted ∙ sym (ap length (probes-put k e) ∙ length-append (probesThat k test) ((k + 2) ∷ []));
+          counted = ap (λ (j : ℕ). j + 1) now.counted ∙ sym (ap length (probes-put k e) ∙ length-append (probes_that k test) ((k + 2) ∷ []));
           wrote =
               ap₂ (λ (l : List ℕ) (j : ℕ). set l j (k + 2)) now.wrote at
-              ∙ set_front d (0 ∷ probesThat k test) (k + 2) (omega (arith, probes-few k, now.room))
+              ∙ set_front d (0 ∷ probes_that k test) (k + 2) (omega (arith, probes-few k, now.room))
               ∙ ap (λ (l : List ℕ). front d (0 ∷ l)) (sym (probes-put k e));
         }
 
   -- the count goes in front
-  pub written : (p : ℕ) (d rest : List ℕ) (n : ℕ) → Writing p (set d 0 0) rest n p → Written (probesThat p test) d (set rest 0 n) (n + 1)
+  pub written : (p : ℕ) (d rest : List ℕ) (n : ℕ) → Writing p (set d 0 0) rest n p → Written (probes_that p test) d (set rest 0 n) (n + 1)
   written p d rest n now =
       record {
         counted = ap (λ (j : ℕ). j + 1) now.counted;
         wrote =
             ap₂ (λ (l : List ℕ) (j : ℕ). set l 0 j) now.wrote now.counted
-            ∙ front-over d 0 (length (probesThat p test)) (probesThat p test);
+            ∙ front-over d 0 (length (probes_that p test)) (probes_that p test);
       }
 
 -- as far as byte i: so many are copied to the start

@@ -1,12 +1,12 @@
 // Who sends in the slot of a colour, and the slot in bytes. `held` is what each node may send: the packets it holds, or 1 where its merged reading is ready.
 ghost use Rattle.std.specs.Prelude.{◌≡◌, not, ◌||◌, ◌&&◌, ◌≤◌, ◌<◌, length};
-ghost use Rattle.meaning.specs.Words.{some, tab, places, byNode};
+ghost use Rattle.meaning.specs.Words.{some, tab, places, by_node};
 ghost use Rattle.meaning.specs.Plan.{front};
 ghost use Rattle.meaning.specs.Conflict.{entry};
-ghost use Rattle.meaning.specs.Rounds.{holds, ownersByProbe};
-ghost use Rattle.laws.specs.Few.{atMost63};
-ghost use Rattle.chosen.specs.TurnSlot.{turnBy, whole, turnLength, turnIn};
-ghost use Rattle.chosen.specs.Kept.{flag, blockedBy, Considered, Joining, nobody, Chosen, NextFree, sendersBy, Written};
+ghost use Rattle.meaning.specs.Rounds.{holds, owners_by_probe};
+ghost use Rattle.laws.specs.Few.{at_most63};
+ghost use Rattle.chosen.specs.TurnSlot.{turn_by, whole, turn_length, turn_in};
+ghost use Rattle.chosen.specs.Kept.{flag, blocked_by, Considered, Joining, nobody, Chosen, NextFree, senders_by, Written};
 
 use meaning::{Colour, Probe};
 
@@ -24,7 +24,7 @@ fn block(row: &[bool; 65], blocked: &mut [bool; 65])
 
 // Who owns the slot of colour s, by node: has the colour and may send. All places and no branch: a compiler does many at once.
 fn owning(own: &[u8; 65], s: Colour, held: &[u16; 65]) -> [bool; 65]
-    ensures { result ≡ ownersByProbe (byNode own.now) s.0 (holds held.now) }
+    ensures { result ≡ owners_by_probe (by_node own.now) s.0 (holds held.now) }
 {
     let colour = s.0;
     let mut flags = [false; 65];
@@ -59,7 +59,7 @@ fn consider(
 )
     requires node { v.0 < 65 }
     requires long { length chosen.old ≡ 65 }
-    requires known { blocked.old ≡ blockedBy (entry table.now) chosen.old }
+    requires known { blocked.old ≡ blocked_by (entry table.now) chosen.old }
     ensures { Considered (entry table.now) (flag may.now) v.0
         chosen.old chosen.new blocked.new }
 {
@@ -84,7 +84,7 @@ fn join(
 )
     requires small { p ≤ 63 }
     requires long { length chosen.old ≡ 65 }
-    requires known { blocked.old ≡ blockedBy (entry table.now) chosen.old }
+    requires known { blocked.old ≡ blocked_by (entry table.now) chosen.old }
     ensures { Joining (entry table.now) (flag may.now) chosen.old p chosen.new blocked.new }
 {
     let mut k: u8 = 0;
@@ -169,9 +169,9 @@ fn write_senders(
 ) -> usize
     requires small { p ≤ 63 }
     requires long { length owners.now ≡ 65 }
-    requires known { blocked.now ≡ blockedBy (entry table.now) owners.now }
+    requires known { blocked.now ≡ blocked_by (entry table.now) owners.now }
     requires room { 64 ≤ length rest.old }
-    ensures { Written (sendersBy p table.now held.now owners.now) rest.old rest.new result }
+    ensures { Written (senders_by p table.now held.now owners.now) rest.old rest.new result }
 {
     let mut free = free_to_send(held, owners, blocked);
     rest[0] = 0;
@@ -215,9 +215,9 @@ pub fn write_slot(
     s: Colour,
     held: &[u16; 65],
 ) -> usize
-    ensures answer { result ≡ turnLength rest.old (turnBy (atMost63 p) table.now own.now s.0 held.now) }
+    ensures answer { result ≡ turn_length rest.old (turn_by (at_most63 p) table.now own.now s.0 held.now) }
     ensures rest { rest.new
-        ≡ turnIn rest.old (turnBy (atMost63 p) table.now own.now s.0 held.now) }
+        ≡ turn_in rest.old (turn_by (at_most63 p) table.now own.now s.0 held.now) }
 {
     let few = laws::at_most_63(p);
     let mut chosen = [false; 65];

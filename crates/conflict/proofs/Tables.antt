@@ -10,12 +10,12 @@ use borrow.Author.Tests.{lt-ltb, le-ltb, ltb-true, ltb-false, eqb-true, eqb-fals
 use lib.Dec.{eqb, ltb}
 use lib.ListN.{length, get_or, take, set, replicate, length-set, replicate-append-replicate}
 use lib.Seq.{get_or-set_same, get_or-set_other, ext_get_or}
-use Rattle.meaning.specs.Words.{forEach, some, someProbe, tab, places}
+use Rattle.meaning.specs.Words.{for_each, some, some_probe, tab, places}
 use Rattle.meaning.specs.Sheet.{first_of, second_of, interfere}
 use Rattle.meaning.specs.Conflict.{table_of, entry}
-use Rattle.meaning.specs.Colour.{levelsConflict}
-use Rattle.laws.proofs.Turns.{forEach-one, forEach-stays, some_one, length-tab, getD-tab, tab-same, tab-full}
-use Rattle.conflict.specs.Marks.{rows_of, marked, levelsMarked}
+use Rattle.meaning.specs.Colour.{levels_conflict}
+use Rattle.laws.proofs.Turns.{for_each-one, for_each-stays, some_one, length-tab, get_or-tab, tab-same, tab-full}
+use Rattle.conflict.specs.Marks.{rows_of, marked, levels_marked}
 
 -- tables of relations that agree are equal
 pub rows_same : (n : ℕ) (f g : ℕ → ℕ → Bool) → ((x : ℕ) → x < n → (y : ℕ) → y < places → f x y ≡ g x y) → rows_of n f ≡ rows_of n g
@@ -41,8 +41,8 @@ no-marks n f none =
 pub entry_of : (n : ℕ) (t : List (List Bool)) (f : ℕ → ℕ → Bool) (x y : ℕ) → t ≡ rows_of n f → x < n → y < places → entry t x y ≡ f x y
 entry_of n t f x y e hx hy =
     ap (λ (u : List (List Bool)). entry u x y) e
-    ∙ ap (λ (row : List Bool). get_or row y false) (getD-tab n (λ a. tab places (f a)) x [] hx)
-    ∙ getD-tab places (f x) y false hy
+    ∙ ap (λ (row : List Bool). get_or row y false) (get_or-tab n (λ a. tab places (f a)) x [] hx)
+    ∙ get_or-tab places (f x) y false hy
 
 -- a list that is filled from the front to its end
 pub filled : {A : Type 0} (l : List A) (i n : ℕ) (f : ℕ → A) → length l ≡ n → take i l ≡ tab i f → n ≤ i → i ≤ n → l ≡ tab n f
@@ -68,12 +68,12 @@ set-tab {A} n f i v =
         ap (λ (j : ℕ). get_or (set (tab n f) j v) k v) (eqb-true i k e)
         ∙ get_or-set_same (tab n f) k v v here
         ∙ ap (λ (s : Bool). cond s v (f k)) (sym e)
-        ∙ sym (getD-tab n g k v h)
+        ∙ sym (get_or-tab n g k v h)
     at k h false e =
         get_or-set_other (tab n f) i k v v (λ q. eqb-false i k e (sym q))
-        ∙ getD-tab n f k v h
+        ∙ get_or-tab n f k v h
         ∙ ap (λ (s : Bool). cond s v (f k)) (sym e)
-        ∙ sym (getD-tab n g k v h)
+        ∙ sym (get_or-tab n g k v h)
 
 -- a mark of two numbers that have a place, and of two that have not both one
 pub marked-in : (n : ℕ) (t : List (List Bool)) (a b : ℕ) → a < n → b < places → marked n t a b ≡ set t a (set (get_or t a []) b true)
@@ -113,7 +113,7 @@ marked-table n f a b = go (ltb a n) refl (ltb b places) refl
     go : (s : Bool) → ltb a n ≡ s → (t : Bool) → ltb b places ≡ t
         → cond (s && t) (set (rows_of n f) a (set (get_or (rows_of n f) a []) b true)) (rows_of n f) ≡ rows_of n g
     go true ha true hb =
-        ap (λ (l : List Bool). set (rows_of n f) a (set l b true)) (getD-tab n (λ x. tab places (f x)) a [] (ltb-true a n ha))
+        ap (λ (l : List Bool). set (rows_of n f) a (set l b true)) (get_or-tab n (λ x. tab places (f x)) a [] (ltb-true a n ha))
         ∙ ap (set (rows_of n f) a) (set-tab places (f a) b true)
         ∙ set-tab n (λ x. tab places (f x)) a (tab places (λ y. cond (eqb b y) true (f a y)))
         ∙ tab-same n (λ x. cond (eqb a x) (tab places (λ y. cond (eqb b y) true (f a y))) (tab places (f x))) (λ x. tab places (g x)) (λ x hx. row x (eqb a x) refl)
@@ -153,26 +153,26 @@ record-marked records k =
 
 -- turn k of the marks of one probe: its row has the next probe, of another level; of its own level; or does not have it
 module _ (level : ℕ → ℕ) (row : ℕ → Bool) (a k : ℕ) (start : List (List Bool)) where
-  turn : levelsMarked (k + 1) level row a start
-      ≡ cond (row (k + 2) && not (eqb a (level (k + 2)))) (marked places (levelsMarked k level row a start) a (level (k + 2))) (levelsMarked k level row a start)
-  unfolding levelsMarked
-  turn = forEach-one k _ start
+  turn : levels_marked (k + 1) level row a start
+      ≡ cond (row (k + 2) && not (eqb a (level (k + 2)))) (marked places (levels_marked k level row a start) a (level (k + 2))) (levels_marked k level row a start)
+  unfolding levels_marked
+  turn = for_each-one k _ start
 
-  pub turn-other : (t : List (List Bool)) → t ≡ levelsMarked k level row a start → row (k + 2) ≡ true → (a ≡ level (k + 2) → ⊥)
-      → marked places t a (level (k + 2)) ≡ levelsMarked (k + 1) level row a start
+  pub turn-other : (t : List (List Bool)) → t ≡ levels_marked k level row a start → row (k + 2) ≡ true → (a ≡ level (k + 2) → ⊥)
+      → marked places t a (level (k + 2)) ≡ levels_marked (k + 1) level row a start
   turn-other t e r n = ap (λ (u : List (List Bool)). marked places u a (level (k + 2))) e ∙ sym (turn ∙ simp (r, ne_eqb a (level (k + 2)) n))
 
-  pub turn-own : (t : List (List Bool)) → t ≡ levelsMarked k level row a start → row (k + 2) ≡ true → a ≡ level (k + 2)
-      → t ≡ levelsMarked (k + 1) level row a start
+  pub turn-own : (t : List (List Bool)) → t ≡ levels_marked k level row a start → row (k + 2) ≡ true → a ≡ level (k + 2)
+      → t ≡ levels_marked (k + 1) level row a start
   turn-own t e r n = e ∙ sym (turn ∙ simp (r, eq-eqb a (level (k + 2)) n))
 
-  pub turn-none : (t : List (List Bool)) → t ≡ levelsMarked k level row a start → row (k + 2) ≡ false → t ≡ levelsMarked (k + 1) level row a start
+  pub turn-none : (t : List (List Bool)) → t ≡ levels_marked k level row a start → row (k + 2) ≡ false → t ≡ levels_marked (k + 1) level row a start
   turn-none t e r = e ∙ sym (turn ∙ simp r)
 
 -- an empty row leaves no mark
-pub empty-row : (p : ℕ) (level : ℕ → ℕ) (row : ℕ → Bool) (a : ℕ) (t : List (List Bool)) → ((y : ℕ) → row y ≡ false) → levelsMarked p level row a t ≡ t
-unfolding levelsMarked forEach
-empty-row p level row a t none = forEach-stays 0 p _ t t (omega arith) refl (λ k hi hk. simp (none (k + 2)))
+pub empty-row : (p : ℕ) (level : ℕ → ℕ) (row : ℕ → Bool) (a : ℕ) (t : List (List Bool)) → ((y : ℕ) → row y ≡ false) → levels_marked p level row a t ≡ t
+unfolding levels_marked for_each
+empty-row p level row a t none = for_each-stays 0 p _ t t (omega arith) refl (λ k hi hk. simp (none (k + 2)))
 
 own-level : (f n s l d : Bool) → (s ≡ true → l ≡ true → n ≡ true) → (f || (not n && (s && d))) ≡ (f || (not n && (s && (d || (l && true)))))
 own-level f n false l d e = refl
@@ -188,36 +188,36 @@ other-level f n true true d e =
     subst (λ (z : Bool). (f || (not z && d) || true) ≡ (f || (not z && (d || true)))) (sym (e refl refl)) (or_assoc f d true)
 
 -- a relation to which level a with each other level that is met is added
-abbrev withLevels : (ℕ → ℕ → Bool) → ℕ → (ℕ → Bool) → ℕ → ℕ → Bool
-withLevels f a met c d = f c d || (not (eqb c d) && (eqb a c && met d))
+abbrev with_levels : (ℕ → ℕ → Bool) → ℕ → (ℕ → Bool) → ℕ → ℕ → Bool
+with_levels f a met c d = f c d || (not (eqb c d) && (eqb a c && met d))
 
 -- what one more probe of a row adds to the relation
 module _ (f : ℕ → ℕ → Bool) (met : ℕ → Bool) (a : ℕ) where
   level-marked : (l : ℕ) (r : Bool)
-      → cond (r && not (eqb a l)) (marked places (table_of (withLevels f a met)) a l) (table_of (withLevels f a met))
-      ≡ table_of (withLevels f a (λ d. met d || (eqb l d && r)))
+      → cond (r && not (eqb a l)) (marked places (table_of (with_levels f a met)) a l) (table_of (with_levels f a met))
+      ≡ table_of (with_levels f a (λ d. met d || (eqb l d && r)))
   level-marked l true = go (eqb a l) refl
     where
       go : (m : Bool) → eqb a l ≡ m
-          → cond (true && not m) (marked places (table_of (withLevels f a met)) a l) (table_of (withLevels f a met))
-          ≡ table_of (withLevels f a (λ d. met d || (eqb l d && true)))
+          → cond (true && not m) (marked places (table_of (with_levels f a met)) a l) (table_of (with_levels f a met))
+          ≡ table_of (with_levels f a (λ d. met d || (eqb l d && true)))
       go true e =
-          table_same (withLevels f a met) (withLevels f a (λ d. met d || (eqb l d && true)))
+          table_same (with_levels f a met) (with_levels f a (λ d. met d || (eqb l d && true)))
           (λ c hc d hd. own-level (f c d) (eqb c d) (eqb a c) (eqb l d) (met d)
           (λ p q. eq-eqb c d (sym (eqb-true a c p) ∙ eqb-true a l e ∙ eqb-true l d q)))
       go false e =
-          marked-table places (withLevels f a met) a l
-          ∙ table_same (λ c d. withLevels f a met c d || (eqb a c && eqb l d)) (withLevels f a (λ d. met d || (eqb l d && true)))
+          marked-table places (with_levels f a met) a l
+          ∙ table_same (λ c d. with_levels f a met c d || (eqb a c && eqb l d)) (with_levels f a (λ d. met d || (eqb l d && true)))
           (λ c hc d hd. other-level (f c d) (eqb c d) (eqb a c) (eqb l d) (met d)
           (λ p q. ne_eqb c d (λ z. eqb-false a l e (eqb-true a c p ∙ z ∙ sym (eqb-true l d q)))))
   level-marked l false =
-      table_same (withLevels f a met) (withLevels f a (λ d. met d || (eqb l d && false)))
+      table_same (with_levels f a met) (with_levels f a (λ d. met d || (eqb l d && false)))
       (λ c hc d hd. ap (λ (z : Bool). f c d || (not (eqb c d) && (eqb a c && z))) (sym (ap (λ (z : Bool). met d || z) (and-false (eqb l d)) ∙ or-false (met d))))
 
 -- the marks of one probe add its level and the levels in its row to the relation
 levels-marked : (level : ℕ → ℕ) (row : ℕ → Bool) (a : ℕ) (f : ℕ → ℕ → Bool) (p : ℕ)
-    → levelsMarked p level row a (table_of f) ≡ table_of (withLevels f a (λ d. some p (λ k. eqb (level (k + 2)) d && row (k + 2))))
-unfolding levelsMarked forEach some
+    → levels_marked p level row a (table_of f) ≡ table_of (with_levels f a (λ d. some p (λ k. eqb (level (k + 2)) d && row (k + 2))))
+unfolding levels_marked for_each some
 levels-marked level row a f zero =
     table_same f _ (λ c hc d hd. sym (ap (λ (z : Bool). f c d || (not (eqb c d) && z)) (and-false (eqb a c))
     ∙ ap (λ (z : Bool). f c d || z) (and-false (not (eqb c d))) ∙ or-false (f c d)))
@@ -226,24 +226,24 @@ levels-marked level row a f (suc k) =
     ∙ level-marked f (λ d. some k (λ k. eqb (level (k + 2)) d && row (k + 2))) a (level (k + 2)) (row (k + 2))
 
 -- two levels conflict by the first k probes of one of them
-unfoldable pub levelsMet : ℕ → ℕ → (ℕ → ℕ) → (ℕ → ℕ → Bool) → ℕ → ℕ → Bool
-levelsMet k p level relation a b =
-    not (eqb a b) && someProbe k (λ x. eqb (level x) a && someProbe p (λ y. eqb (level y) b && relation x y))
+unfoldable pub levels_met : ℕ → ℕ → (ℕ → ℕ) → (ℕ → ℕ → Bool) → ℕ → ℕ → Bool
+levels_met k p level relation a b =
+    not (eqb a b) && some_probe k (λ x. eqb (level x) a && some_probe p (λ y. eqb (level y) b && relation x y))
 
 pub level-table-next : (k p : ℕ) (level : ℕ → ℕ) (relation : ℕ → ℕ → Bool) (t : List (List Bool))
-    → t ≡ table_of (levelsMet k p level relation)
-    → levelsMarked p level (relation (k + 2)) (level (k + 2)) t ≡ table_of (levelsMet (k + 1) p level relation)
-unfolding levelsMet
+    → t ≡ table_of (levels_met k p level relation)
+    → levels_marked p level (relation (k + 2)) (level (k + 2)) t ≡ table_of (levels_met (k + 1) p level relation)
+unfolding levels_met
 level-table-next k p level relation t e =
-    ap (levelsMarked p level (relation (k + 2)) (level (k + 2))) e
-    ∙ levels-marked level (relation (k + 2)) (level (k + 2)) (levelsMet k p level relation) p
-    ∙ table_same _ (levelsMet (k + 1) p level relation)
+    ap (levels_marked p level (relation (k + 2)) (level (k + 2))) e
+    ∙ levels-marked level (relation (k + 2)) (level (k + 2)) (levels_met k p level relation) p
+    ∙ table_same _ (levels_met (k + 1) p level relation)
     (λ a ha b hb. sym (ap (λ (z : Bool). not (eqb a b) && z) (some_one k _) ∙ and-or_distrib_left (not (eqb a b)) _ _))
 
-pub level-table-full : (p : ℕ) (level : ℕ → ℕ) (relation : ℕ → ℕ → Bool) → table_of (levelsMet p p level relation) ≡ table_of (levelsConflict p level relation)
-unfolding levelsMet levelsConflict
+pub level-table-full : (p : ℕ) (level : ℕ → ℕ) (relation : ℕ → ℕ → Bool) → table_of (levels_met p p level relation) ≡ table_of (levels_conflict p level relation)
+unfolding levels_met levels_conflict
 level-table-full p level relation = refl
 
-pub no-levels : (p : ℕ) (level : ℕ → ℕ) (relation : ℕ → ℕ → Bool) (a b : ℕ) → levelsMet 0 p level relation a b ≡ false
-unfolding levelsMet some
+pub no-levels : (p : ℕ) (level : ℕ → ℕ) (relation : ℕ → ℕ → Bool) (a b : ℕ) → levels_met 0 p level relation a b ≡ false
+unfolding levels_met some
 no-levels p level relation a b = and-false (not (eqb a b))

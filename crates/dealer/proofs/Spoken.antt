@@ -11,12 +11,12 @@ use Rattle.meaning.specs.declared.Told.{Told}
 use Rattle.meaning.specs.declared.MergedTold.{MergedTold}
 use Rattle.meaning.specs.Lister.{text, decimal}
 use Rattle.lines.proofs.PartsLong.{Within, counted, both, numbered, digits_long}
-use Rattle.dealer.specs.SlotLength.{down, up, secondsOf}
-use Rattle.dealer.specs.Sentences.{minutes, timed, at_least, leastSaid, mergedSaid, oursSaid, mostSaid, nobodySaid, sentences, mergedSentences, spreadText}
+use Rattle.dealer.specs.SlotLength.{down, up, seconds_of}
+use Rattle.dealer.specs.Sentences.{minutes, timed, at_least, least_said, merged_said, ours_said, most_said, nobody_said, sentences, merged_sentences, spread_text}
 
 -- a slot's length is known, or not
 module _ (slots ms rounding : ℕ) where
-  pub time-said : (ms ≡ 0 → ⊥) → minutes (secondsOf slots ms rounding) ≡ timed slots ms rounding
+  pub time-said : (ms ≡ 0 → ⊥) → minutes (seconds_of slots ms rounding) ≡ timed slots ms rounding
   unfolding timed
   time-said known = rw (ne_eqb ms 0 known)
 
@@ -26,12 +26,12 @@ module _ (slots ms rounding : ℕ) where
 
 -- our plan is longer than the least, or not
 module _ (least ours times : ℕ) where
-  pub part-said : least < ours → text " Nobody's plan can be less than 1/" ++ decimal 5 times ++ text " of ours.\n" ≡ nobodySaid least ours times
-  unfolding nobodySaid
+  pub part-said : least < ours → text " Nobody's plan can be less than 1/" ++ decimal 5 times ++ text " of ours.\n" ≡ nobody_said least ours times
+  unfolding nobody_said
   part-said longer = rw (lt-ltb least ours longer)
 
-  pub none-shorter : ours ≤ least → text " Nobody's plan is shorter.\n" ≡ nobodySaid least ours times
-  unfolding nobodySaid
+  pub none-shorter : ours ≤ least → text " Nobody's plan is shorter.\n" ≡ nobody_said least ours times
+  unfolding nobody_said
   none-shorter least-slots = rw (le-ltb least ours least-slots)
 
 -- how long each part can be
@@ -39,10 +39,10 @@ time-long : (slots ms rounding : ℕ) → Within (timed slots ms rounding) 20
 unfolding text timed
 time-long slots ms rounding = go (eqb ms 0)
   where
-    go : (b : Bool) → Within (cond b [] (minutes (secondsOf slots ms rounding))) 20
+    go : (b : Bool) → Within (cond b [] (minutes (seconds_of slots ms rounding))) 20
     go true = counted refl
     go false =
-        let all : ℕ = secondsOf slots ms rounding in
+        let all : ℕ = seconds_of slots ms rounding in
         both (both (both (counted {bytes = text " ("} {most = 2} refl) (digits_long (all / 60))) (numbered {a = 4} " min" (all % 60) (counted refl)))
         (counted {bytes = text " s)"} {most = 3} refl)
 
@@ -54,26 +54,26 @@ at-least-long slots ms h =
     (time-long slots ms down))
     (counted {bytes = text ", whoever plans it."} {most = 19} refl)
 
-least-long : (slots ms : ℕ) → Within (leastSaid slots ms) 77
-unfolding text leastSaid
+least-long : (slots ms : ℕ) → Within (least_said slots ms) 77
+unfolding text least_said
 least-long slots ms = at-least-long slots ms (counted {bytes = text "One reading"} {most = 11} refl)
 
-merged-long : (slots ms : ℕ) → Within (mergedSaid slots ms) 84
-unfolding text mergedSaid
+merged-long : (slots ms : ℕ) → Within (merged_said slots ms) 84
+unfolding text merged_said
 merged-long slots ms = at-least-long slots ms (counted {bytes = text "One merged reading"} {most = 18} refl)
 
-ours-long : (slots ms : ℕ) → Within (oursSaid slots ms) 42
-unfolding text oursSaid
+ours-long : (slots ms : ℕ) → Within (ours_said slots ms) 42
+unfolding text ours_said
 ours-long slots ms =
     both (both (numbered {a = 15} " Our plan takes" slots (counted refl)) (time-long slots ms up)) (counted {bytes = text "."} {most = 1} refl)
 
-most-long : (slots ms : ℕ) → Within (mostSaid slots ms) 52
-unfolding text mostSaid
+most-long : (slots ms : ℕ) → Within (most_said slots ms) 52
+unfolding text most_said
 most-long slots ms =
     both (both (numbered {a = 25} " It never takes more than" slots (counted refl)) (time-long slots ms up)) (counted {bytes = text "."} {most = 1} refl)
 
-nobody-long : (least ours times : ℕ) → Within (nobodySaid least ours times) 49
-unfolding text nobodySaid
+nobody-long : (least ours times : ℕ) → Within (nobody_said least ours times) 49
+unfolding text nobody_said
 nobody-long least ours times = go (ltb least ours)
   where
     go : (b : Bool) → Within (cond b (text " Nobody's plan can be less than 1/" ++ decimal 5 times ++ text " of ours.\n") (text " Nobody's plan is shorter.\n")) 49
@@ -89,15 +89,15 @@ sentences-most told ms =
     let all = both slots (nobody-long told.least told.ours told.times) in
     omega (arith, all.short)
 
-pub merged-most : (told : MergedTold) (ms : ℕ) → length (mergedSentences told ms) ≤ 256
-unfolding text mergedSentences
+pub merged-most : (told : MergedTold) (ms : ℕ) → length (merged_sentences told ms) ≤ 256
+unfolding text merged_sentences
 merged-most told ms =
     let slots = both (both (merged-long told.least ms) (ours-long told.ours ms)) (most-long told.most ms) in
     let all = both slots (counted {bytes = text "\n"} {most = 1} refl) in
     omega (arith, all.short)
 
-pub spread-most : (best worst : ℕ) → length (spreadText best worst) ≤ 256
-unfolding text spreadText
+pub spread-most : (best worst : ℕ) → length (spread_text best worst) ≤ 256
+unfolding text spread_text
 spread-most best worst =
     let first = numbered {a = 68} "The same probes, hung otherwise and disturbing each other otherwise:" best (counted refl) in
     let all = both (both first (numbered {a = 15} " slots at best," worst (counted refl))) (counted {bytes = text " at worst.\n"} {most = 11} refl) in

@@ -1,10 +1,10 @@
 // The telephone in the dealer's words: how long a slot is, the sentences about a sheet and its merged readings, and the line about other arrangements of its probes.
 ghost use Rattle.std.specs.Prelude.{◌≡◌, ◌≤◌, min, length, take};
-ghost use Rattle.lines.specs.Line.{lineLength, lineIn};
+ghost use Rattle.lines.specs.Line.{line_length, line_in};
 ghost use Rattle.lines.specs.Fits.{Fits};
-ghost use Rattle.dealer.specs.SlotLength.{longestSlot, millisecondsSaid, secondsOf};
-ghost use Rattle.dealer.specs.Sentences.{timed, at_least, oursSaid, mostSaid, nobodySaid, sentences, mergedSentences};
-ghost use Rattle.dealer.specs.Sentences.{orRefused, askedText, mergedText, spreadText};
+ghost use Rattle.dealer.specs.SlotLength.{longest_slot, milliseconds_said, seconds_of};
+ghost use Rattle.dealer.specs.Sentences.{timed, at_least, ours_said, most_said, nobody_said, sentences, merged_sentences};
+ghost use Rattle.dealer.specs.Sentences.{or_refused, asked_text, merged_text, spread_text};
 
 use meaning::{MergedTold, Outcome, Told};
 
@@ -13,7 +13,7 @@ const LONGEST_SLOT: u16 = 60000;
 
 // The milliseconds that a word says, 1 to 60,000; 0 where it says anything else.
 pub fn milliseconds(word: &[u8]) -> u16
-    ensures { result ≡ millisecondsSaid word.now }
+    ensures { result ≡ milliseconds_said word.now }
 {
     if digits::others_stand(word) {
         return 0;
@@ -23,7 +23,7 @@ pub fn milliseconds(word: &[u8]) -> u16
 }
 
 fn at_most_a_minute(ms: u16) -> u16
-    ensures { result ≡ min ms longestSlot }
+    ensures { result ≡ min ms longest_slot }
 {
     if ms < LONGEST_SLOT { ms } else { LONGEST_SLOT }
 }
@@ -31,7 +31,7 @@ fn at_most_a_minute(ms: u16) -> u16
 // The seconds that so many slots take, rounded down by 0 and up by 999.
 fn seconds(slots: u16, ms: u16, rounding: u16) -> u32
     requires { rounding ≤ 999 }
-    ensures count { result ≡ secondsOf slots ms rounding }
+    ensures count { result ≡ seconds_of slots ms rounding }
     ensures few { result ≤ 3932100 }
 {
     let slot = at_most_a_minute(ms);
@@ -67,7 +67,7 @@ fn put_at_least(reading: &[u8], slots: u16, ms: u16, out: &mut [u8], at: usize) 
 
 // The same of our plan.
 fn put_ours(slots: u16, ms: u16, out: &mut [u8], at: usize) -> usize
-    ensures { Fits out.old at (oursSaid slots ms) out.new result }
+    ensures { Fits out.old at (ours_said slots ms) out.new result }
 {
     let a = lines::put_counted(b" Our plan takes ", slots, out, at);
     let b = put_timed(slots, ms, 999, out, a);
@@ -76,7 +76,7 @@ fn put_ours(slots: u16, ms: u16, out: &mut [u8], at: usize) -> usize
 
 // The same of its worst case.
 fn put_most(slots: u16, ms: u16, out: &mut [u8], at: usize) -> usize
-    ensures { Fits out.old at (mostSaid slots ms) out.new result }
+    ensures { Fits out.old at (most_said slots ms) out.new result }
 {
     let a = lines::put_counted(b" It never takes more than ", slots, out, at);
     let end = put_timed(slots, ms, 999, out, a);
@@ -85,7 +85,7 @@ fn put_most(slots: u16, ms: u16, out: &mut [u8], at: usize) -> usize
 
 // The same of how much shorter than ours anybody's plan can be.
 fn put_nobody(least: u16, ours: u16, times: u8, out: &mut [u8], at: usize) -> usize
-    ensures { Fits out.old at (nobodySaid least ours times) out.new result }
+    ensures { Fits out.old at (nobody_said least ours times) out.new result }
 {
     if least < ours {
         let a = lines::put_counted(b" Nobody's plan can be less than 1/", times as u16, out, at);
@@ -106,7 +106,7 @@ fn put_sentences(told: Told, ms: u16, out: &mut [u8], at: usize) -> usize
 
 // Puts the three sentences about merged readings at a place; says where they end.
 fn put_merged(told: MergedTold, ms: u16, out: &mut [u8], at: usize) -> usize
-    ensures { Fits out.old at (mergedSentences told ms) out.new result }
+    ensures { Fits out.old at (merged_sentences told ms) out.new result }
 {
     let first = put_at_least(b"One merged reading", told.least, ms, out, at);
     let second = put_ours(told.ours, ms, out, first);
@@ -117,8 +117,8 @@ fn put_merged(told: MergedTold, ms: u16, out: &mut [u8], at: usize) -> usize
 // Sentences, or the line of the refusal, at the start of a lent buffer; says how many bytes they have, 0 and nothing written where they do not fit.
 fn or_refused(out: &mut [u8], outcome: Outcome, sentences: &[u8]) -> usize
     ensures part { (result ≤ length out.new) × (result ≡ length (take result out.new)) }
-    ensures answer { result ≡ lineLength out.old (orRefused outcome sentences.now) }
-    ensures buffer { out.new ≡ lineIn out.old (orRefused outcome sentences.now) }
+    ensures answer { result ≡ line_length out.old (or_refused outcome sentences.now) }
+    ensures buffer { out.new ≡ line_in out.old (or_refused outcome sentences.now) }
 {
     if outcome.number != 0 {
         return wording::refused(out, outcome);
@@ -129,8 +129,8 @@ fn or_refused(out: &mut [u8], outcome: Outcome, sentences: &[u8]) -> usize
 // What is said of a sheet, at the start of a lent buffer, in minutes too where ms is not 0; says how many bytes it has, 0 and nothing written where they do not fit.
 pub fn asked(out: &mut [u8], told: Told, ms: u16) -> usize
     ensures part { (result ≤ length out.new) × (result ≡ length (take result out.new)) }
-    ensures answer { result ≡ lineLength out.old (askedText told ms) }
-    ensures buffer { out.new ≡ lineIn out.old (askedText told ms) }
+    ensures answer { result ≡ line_length out.old (asked_text told ms) }
+    ensures buffer { out.new ≡ line_in out.old (asked_text told ms) }
 {
     let mut line = [0u8; wording::ANY_ANSWER];
     let n = put_sentences(told, ms, &mut line, 0);
@@ -140,8 +140,8 @@ pub fn asked(out: &mut [u8], told: Told, ms: u16) -> usize
 // The same of a sheet's merged readings.
 pub fn merged_asked(out: &mut [u8], told: MergedTold, ms: u16) -> usize
     ensures part { (result ≤ length out.new) × (result ≡ length (take result out.new)) }
-    ensures answer { result ≡ lineLength out.old (mergedText told ms) }
-    ensures buffer { out.new ≡ lineIn out.old (mergedText told ms) }
+    ensures answer { result ≡ line_length out.old (merged_text told ms) }
+    ensures buffer { out.new ≡ line_in out.old (merged_text told ms) }
 {
     let mut line = [0u8; wording::ANY_ANSWER];
     let n = put_merged(told, ms, &mut line, 0);
@@ -150,7 +150,7 @@ pub fn merged_asked(out: &mut [u8], told: MergedTold, ms: u16) -> usize
 
 // Puts what is said of the other arrangements at a place; says where it ends.
 fn put_spread(best: u16, worst: u16, out: &mut [u8], at: usize) -> usize
-    ensures { Fits out.old at (spreadText best worst) out.new result }
+    ensures { Fits out.old at (spread_text best worst) out.new result }
 {
     let a = lines::put_counted(
         b"The same probes, hung otherwise and disturbing each other otherwise: ",
@@ -165,8 +165,8 @@ fn put_spread(best: u16, worst: u16, out: &mut [u8], at: usize) -> usize
 // What is said of the other arrangements of a sheet's probes, at the start of a lent buffer; says how many bytes it has, 0 and nothing written where they do not fit.
 pub fn spread(out: &mut [u8], best: u16, worst: u16) -> usize
     ensures part { (result ≤ length out.new) × (result ≡ length (take result out.new)) }
-    ensures answer { result ≡ lineLength out.old (spreadText best worst) }
-    ensures buffer { out.new ≡ lineIn out.old (spreadText best worst) }
+    ensures answer { result ≡ line_length out.old (spread_text best worst) }
+    ensures buffer { out.new ≡ line_in out.old (spread_text best worst) }
 {
     let mut line = [0u8; wording::ANY_ANSWER];
     let n = put_spread(best, worst, &mut line, 0);

@@ -1,16 +1,16 @@
 // The number that a word says, as its digits say it, and whether anything but digits stands in it.
 ghost use Rattle.std.specs.Prelude.{◌≡◌, ◌+◌, ◌-◌, ◌*◌};
-ghost use Rattle.digits.specs.Digits.{isDigit, othersStand, upTo65535, numberSaid};
+ghost use Rattle.digits.specs.Digits.{is_digit, others_stand, up_to65535, number_said};
 
 fn is_digit(byte: u8) -> bool
-    ensures { result ≡ isDigit byte }
+    ensures { result ≡ is_digit byte }
 {
     (48 <= byte) & (byte <= 57)
 }
 
 // Whether any byte of a word is no digit.
 pub fn others_stand(word: &[u8]) -> bool
-    ensures { result ≡ othersStand word.now }
+    ensures { result ≡ others_stand word.now }
 {
     let mut i = 0;
     while i < word.len() {
@@ -32,7 +32,7 @@ fn counts(byte: u8) -> u8
 
 // The number that a byte makes behind the number before it, and 65,535 for all above.
 fn with_digit(before: u16, byte: u8) -> u16
-    ensures { result ≡ upTo65535 (10 * before + (byte - 48)) }
+    ensures { result ≡ up_to65535 (10 * before + (byte - 48)) }
 {
     let ones = counts(byte);
     let more = 10 * before as u32 + ones as u32;
@@ -41,7 +41,7 @@ fn with_digit(before: u16, byte: u8) -> u16
 
 // The number that a word says, and 65,535 for all above.
 pub fn number_said(word: &[u8]) -> u16
-    ensures { result ≡ numberSaid word.now }
+    ensures { result ≡ number_said word.now }
 {
     let mut before: u16 = 0;
     let mut i = 0;

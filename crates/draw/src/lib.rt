@@ -3,7 +3,7 @@ ghost use Rattle.std.specs.Prelude.{◌≡◌, cond, [], ◌-◌, ◌≤◌, ◌
 ghost use Rattle.meaning.specs.Words.{places};
 ghost use Rattle.meaning.specs.Plan.{front};
 ghost use Rattle.lines.specs.Fits.{Fits};
-ghost use Rattle.graph.specs.Drawing.{texts, problemLine, edgeLine, rowText, tableText, graphMade};
+ghost use Rattle.graph.specs.Drawing.{texts, problem_line, edge_line, row_text, table_text, graph_made};
 
 use graph::Drawn;
 use meaning::Outcome;
@@ -21,7 +21,7 @@ fn vertex(x: usize) -> u16
 
 // Puts the line of an edge at a place, or nothing where there is none; says where it ends.
 fn put_edge(is: bool, a: u16, b: u16, out: &mut [u8], at: usize) -> usize
-    ensures { Fits out.old at (cond is (edgeLine a b) []) out.new result }
+    ensures { Fits out.old at (cond is (edge_line a b) []) out.new result }
 {
     if !is {
         return at;
@@ -34,7 +34,7 @@ fn put_edge(is: bool, a: u16, b: u16, out: &mut [u8], at: usize) -> usize
 // Puts the edges of a row whose own vertex is the smaller; says where they end.
 fn put_row(table: &[[bool; 65]; 65], x: usize, out: &mut [u8], at: usize) -> usize
     requires { x < places }
-    ensures { Fits out.old at (rowText table.now x) out.new result }
+    ensures { Fits out.old at (row_text table.now x) out.new result }
 {
     let a = vertex(x);
     let mut end = at;
@@ -48,7 +48,7 @@ fn put_row(table: &[[bool; 65]; 65], x: usize, out: &mut [u8], at: usize) -> usi
 
 // Puts all edges, by their smaller vertex and then by their larger; says where they end.
 fn put_edges(table: &[[bool; 65]; 65], out: &mut [u8], at: usize) -> usize
-    ensures { Fits out.old at (texts places (rowText table.now)) out.new result }
+    ensures { Fits out.old at (texts places (row_text table.now)) out.new result }
 {
     let mut end = at;
     let mut x = 0;
@@ -61,7 +61,7 @@ fn put_edges(table: &[[bool; 65]; 65], out: &mut [u8], at: usize) -> usize
 
 // Puts the line with the number of vertices and of edges; says where it ends.
 fn put_problem(vertices: u8, edges: u16, out: &mut [u8], at: usize) -> usize
-    ensures { Fits out.old at (problemLine vertices edges) out.new result }
+    ensures { Fits out.old at (problem_line vertices edges) out.new result }
 {
     let first = lines::put_counted(b"p edge ", vertices as u16, out, at);
     let second = lines::put_counted(b" ", edges, out, first);
@@ -70,7 +70,7 @@ fn put_problem(vertices: u8, edges: u16, out: &mut [u8], at: usize) -> usize
 
 // Puts the text of a table at a place; says where it ends.
 fn put_table(vertices: u8, table: &[[bool; 65]; 65], out: &mut [u8], at: usize) -> usize
-    ensures { Fits out.old at (tableText vertices table.now) out.new result }
+    ensures { Fits out.old at (table_text vertices table.now) out.new result }
 {
     let next = put_problem(vertices, graph::edges(table), out, at);
     put_edges(table, out, next)
@@ -79,8 +79,8 @@ fn put_table(vertices: u8, table: &[[bool; 65]; 65], out: &mut [u8], at: usize) 
 // The graph of any sheet as text, into any buffer, or a numbered refusal.
 pub fn graph_made(sheet: &[u8], out: &mut [u8]) -> Drawn
     ensures part { result.bytes ≤ length out.new }
-    ensures answer { result ≡ (graphMade sheet.now (length out.old)).answer }
-    ensures buffer { out.new ≡ front out.old (graphMade sheet.now (length out.old)).written }
+    ensures answer { result ≡ (graph_made sheet.now (length out.old)).answer }
+    ensures buffer { out.new ≡ front out.old (graph_made sheet.now (length out.old)).written }
 {
     let tree = sheet::read(sheet);
     let outcome = tree.outcome;

@@ -3,8 +3,8 @@ use Rattle.std.specs.Prelude.{Bool, cond, ◌&&◌, ◌||◌, ℕ, eqb, ltb, len
 use Rattle.meaning.specs.Words.{Bytes, tab}
 
 -- the one byte `-`
-abbrev pub isDash : Bytes → Bool
-isDash path = eqb (length path) 1 && eqb (get_or path 0 0) 45
+abbrev pub is_dash : Bytes → Bool
+is_dash path = eqb (length path) 1 && eqb (get_or path 0 0) 45
 
 -- a byte as it is shown: one that would end the line, or ring a bell, is a question mark
 abbrev pub plain_byte : ℕ → ℕ

@@ -13,11 +13,11 @@ abbrev pub failed : ℕ
 failed = 50
 
 -- the status of an answer, by its number
-abbrev pub numberStatus : (number : ℕ) → ℕ
-numberStatus number = cond (eqb number 0) answered refused
+abbrev pub number_status : (number : ℕ) → ℕ
+number_status number = cond (eqb number 0) answered refused
 
-abbrev pub statusOf : Outcome → ℕ
-statusOf outcome = numberStatus outcome.number
+abbrev pub status_of : Outcome → ℕ
+status_of outcome = number_status outcome.number
 
 -- one of the three
 abbrev pub IsStatus : (r : ℕ) → Type 0

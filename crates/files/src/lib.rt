@@ -4,11 +4,11 @@ ghost use Rattle.std.specs.Prelude.{◌≡◌, min, length, replicate};
 ghost use Rattle.std.proofs.lemmas.List.Edits.{sets};
 ghost use Rattle.libc.specs.Io.{Moved};
 ghost use Rattle.io.specs.Counts.{IsPrefixLen};
-ghost use Rattle.meaning.specs.Plan.{decidingPlan};
-ghost use Rattle.meaning.specs.Lister.{anyText};
+ghost use Rattle.meaning.specs.Plan.{deciding_plan};
+ghost use Rattle.meaning.specs.Lister.{any_text};
 ghost use Rattle.lines.specs.Line.{fitting};
-ghost use Rattle.files.specs.Status.{answered, failed, statusOf, OrFailed, Descriptor};
-ghost use Rattle.files.specs.Name.{isDash, plain_byte, flattened};
+ghost use Rattle.files.specs.Status.{answered, failed, status_of, OrFailed, Descriptor};
+ghost use Rattle.files.specs.Name.{is_dash, plain_byte, flattened};
 
 use libc::{STDERR_FILENO, STDIN_FILENO, STDOUT_FILENO};
 use meaning::Outcome;
@@ -25,16 +25,16 @@ const STATUS_FILENO: i32 = 3;
 
 // Room for any plan of ours, and for as much of another as decides its verdict; all zeros.
 pub fn plan_room() -> [u8; meaning::DECIDING_PLAN]
-    ensures zeros { result ≡ replicate decidingPlan 0 }
-    ensures long { decidingPlan ≡ length result }
+    ensures zeros { result ≡ replicate deciding_plan 0 }
+    ensures long { deciding_plan ≡ length result }
 {
     [0; meaning::DECIDING_PLAN]
 }
 
 // Room for any text of the lister; all zeros.
 pub fn text_room() -> [u8; meaning::ANY_TEXT]
-    ensures zeros { result ≡ replicate anyText 0 }
-    ensures long { anyText ≡ length result }
+    ensures zeros { result ≡ replicate any_text 0 }
+    ensures long { any_text ≡ length result }
 {
     [0; meaning::ANY_TEXT]
 }
@@ -67,7 +67,7 @@ pub fn say(to: i32, text: &[u8], status: u8) -> u8
 
 // Says an answer about a sheet, a plan or a graph.
 pub fn say_answer(to: i32, text: &[u8], outcome: Outcome) -> u8
-    ensures { OrFailed (statusOf outcome) result }
+    ensures { OrFailed (status_of outcome) result }
 {
     if outcome.number == 0 {
         return say(to, text, ANSWERED);
@@ -154,7 +154,7 @@ const STRAIGHT: u8 = b'>';
 
 // Whether a name stands for standard input or output.
 pub fn is_dash(path: &[u8]) -> bool
-    ensures { result ≡ isDash path.now }
+    ensures { result ≡ is_dash path.now }
 {
     path.len() == 1 && laws::number_at(path, 0) == b'-'
 }

@@ -20,13 +20,13 @@ use Rattle.gateway.specs.declared.YardDrawn.{YardDrawn}
 use Rattle.gateway.specs.declared.YardGraph.{YardGraph}
 
 -- "Numbers returned": number, place, colours, slots and bytes written
-abbrev pub flatPlanned : Planned → YardPlanned
-flatPlanned r =
+abbrev pub flat_planned : Planned → YardPlanned
+flat_planned r =
     record { number = r.outcome.number; place = r.outcome.place; colours = r.colours; slots = r.slots; bytes = r.bytes }
 
 -- "Numbers returned", "Whom a refusal names": number, place, slots and both names
-abbrev pub flatVerdict : Judgement → YardVerdict
-flatVerdict r =
+abbrev pub flat_verdict : Judgement → YardVerdict
+flat_verdict r =
     let verdict = r.verdict in
     record {
       number = verdict.outcome.number;
@@ -37,34 +37,34 @@ flatVerdict r =
     }
 
 -- "The wake book": number, place, both names and bytes written
-abbrev pub flatBooked : Booked → YardBooked
-flatBooked r =
+abbrev pub flat_booked : Booked → YardBooked
+flat_booked r =
     let names = r.names in
     record { number = r.outcome.number; place = r.outcome.place; first = names.first; second = names.second; bytes = r.bytes }
 
 -- Demand 3, on the telephone: number, place, the slots at least, in our plan and at most, and how many times anybody's
-abbrev pub flatTold : Told → YardTold
-flatTold r =
+abbrev pub flat_told : Told → YardTold
+flat_told r =
     record { number = r.outcome.number; place = r.outcome.place; least = r.least; ours = r.ours; most = r.most; times = r.times }
 
 -- "Merged readings", on the telephone: number, place, and the slots at least, in our plan and at most
-abbrev pub flatMergedTold : MergedTold → YardMergedTold
-flatMergedTold r = record { number = r.outcome.number; place = r.outcome.place; least = r.least; ours = r.ours; most = r.most }
+abbrev pub flat_merged_told : MergedTold → YardMergedTold
+flat_merged_told r = record { number = r.outcome.number; place = r.outcome.place; least = r.least; ours = r.ours; most = r.most }
 
 -- "Worst and best": number, place, and the slots at best and at worst
-abbrev pub flatSpread : Spread → YardSpread
-flatSpread r = record { number = r.outcome.number; place = r.outcome.place; best = r.best; worst = r.worst }
+abbrev pub flat_spread : Spread → YardSpread
+flat_spread r = record { number = r.outcome.number; place = r.outcome.place; best = r.best; worst = r.worst }
 
 -- "A graph as text", written: number, place and bytes
-abbrev pub flatDrawn : Drawn → YardDrawn
-flatDrawn r = record { number = r.outcome.number; place = r.outcome.place; bytes = r.bytes }
+abbrev pub flat_drawn : Drawn → YardDrawn
+flat_drawn r = record { number = r.outcome.number; place = r.outcome.place; bytes = r.bytes }
 
 -- "A graph as text", read: number, place and vertices
-abbrev pub flatGraph : Graph → YardGraph
-flatGraph r = record { number = r.number; place = r.place; vertices = r.vertices }
+abbrev pub flat_graph : Graph → YardGraph
+flat_graph r = record { number = r.number; place = r.place; vertices = r.vertices }
 
 -- "Numbers returned": which plan the chooser hands back
-abbrev pub choiceNumber : Choice → ℕ
-choiceNumber Neither = 0
-choiceNumber First = 1
-choiceNumber Second = 2
+abbrev pub choice_number : Choice → ℕ
+choice_number Neither = 0
+choice_number First = 1
+choice_number Second = 2

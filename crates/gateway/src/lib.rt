@@ -3,18 +3,18 @@
 ghost use Rattle.std.specs.Prelude.{◌≡◌, false, cond, ◌+◌, ◌^◌, ◌<◌, length, get_or};
 ghost use Rattle.meaning.specs.declared.Mode.TheVariants.{Merged};
 ghost use Rattle.meaning.specs.Plan.{front};
-ghost use Rattle.meaning.specs.Rounds.{byProbe, byLevel};
-ghost use Rattle.meaning.specs.Answer.{planMade, mergedMade};
-ghost use Rattle.meaning.specs.Judge.{judgementIn, judgement, choice};
-ghost use Rattle.meaning.specs.Book.{bookMade};
+ghost use Rattle.meaning.specs.Rounds.{by_probe, by_level};
+ghost use Rattle.meaning.specs.Answer.{plan_made, merged_made};
+ghost use Rattle.meaning.specs.Judge.{judgement_in, judgement, choice};
+ghost use Rattle.meaning.specs.Book.{book_made};
 ghost use Rattle.meaning.specs.Telephone.{asked};
-ghost use Rattle.meaning.specs.Merged.{mergedAsked};
-ghost use Rattle.arrangement.specs.Arranged.{spread_of, worstSheet, bestSheet, arranged};
-ghost use Rattle.listing.specs.Listed.{listedLength, listedIn};
-ghost use Rattle.graph.specs.Drawing.{graphMade};
-ghost use Rattle.graph.specs.Reading.{graphRead};
-ghost use Rattle.gateway.specs.Flat.{flatPlanned, flatVerdict, flatBooked, flatTold, flatMergedTold, flatSpread, flatDrawn, flatGraph, choiceNumber};
-ghost use Rattle.gateway.specs.Rows.{word, rowWords};
+ghost use Rattle.meaning.specs.Merged.{merged_asked};
+ghost use Rattle.arrangement.specs.Arranged.{spread_of, worst_sheet, best_sheet, arranged};
+ghost use Rattle.listing.specs.Listed.{listed_length, listed_in};
+ghost use Rattle.graph.specs.Drawing.{graph_made};
+ghost use Rattle.graph.specs.Reading.{graph_read};
+ghost use Rattle.gateway.specs.Flat.{flat_planned, flat_verdict, flat_booked, flat_told, flat_merged_told, flat_spread, flat_drawn, flat_graph, choice_number};
+ghost use Rattle.gateway.specs.Rows.{word, row_words};
 
 use arrangement::Spread;
 use graph::{Drawn, Graph};
@@ -105,7 +105,7 @@ pub struct YardGraph {
 }
 
 fn planned(r: Planned) -> YardPlanned
-    ensures { result ≡ flatPlanned r }
+    ensures { result ≡ flat_planned r }
 {
     let outcome = r.outcome;
     YardPlanned {
@@ -118,7 +118,7 @@ fn planned(r: Planned) -> YardPlanned
 }
 
 fn verdict(r: Judgement) -> YardVerdict
-    ensures { result ≡ flatVerdict r }
+    ensures { result ≡ flat_verdict r }
 {
     let judged = r.verdict;
     let outcome = judged.outcome;
@@ -133,7 +133,7 @@ fn verdict(r: Judgement) -> YardVerdict
 }
 
 fn booked(r: Booked) -> YardBooked
-    ensures { result ≡ flatBooked r }
+    ensures { result ≡ flat_booked r }
 {
     let outcome = r.outcome;
     let names = r.names;
@@ -147,7 +147,7 @@ fn booked(r: Booked) -> YardBooked
 }
 
 fn told(r: Told) -> YardTold
-    ensures { result ≡ flatTold r }
+    ensures { result ≡ flat_told r }
 {
     let outcome = r.outcome;
     YardTold {
@@ -161,7 +161,7 @@ fn told(r: Told) -> YardTold
 }
 
 fn merged_told(r: MergedTold) -> YardMergedTold
-    ensures { result ≡ flatMergedTold r }
+    ensures { result ≡ flat_merged_told r }
 {
     let outcome = r.outcome;
     let least = r.least;
@@ -177,7 +177,7 @@ fn merged_told(r: MergedTold) -> YardMergedTold
 }
 
 fn spread(r: Spread) -> YardSpread
-    ensures { result ≡ flatSpread r }
+    ensures { result ≡ flat_spread r }
 {
     let outcome = r.outcome;
     YardSpread {
@@ -189,7 +189,7 @@ fn spread(r: Spread) -> YardSpread
 }
 
 fn drawn(r: Drawn) -> YardDrawn
-    ensures { result ≡ flatDrawn r }
+    ensures { result ≡ flat_drawn r }
 {
     let outcome = r.outcome;
     YardDrawn {
@@ -200,7 +200,7 @@ fn drawn(r: Drawn) -> YardDrawn
 }
 
 fn graph(r: Graph) -> YardGraph
-    ensures { result ≡ flatGraph r }
+    ensures { result ≡ flat_graph r }
 {
     YardGraph {
         number: r.number,
@@ -233,7 +233,7 @@ fn word(row: &[bool; 65]) -> u64
 
 // The rows of the nodes 1 to 64 as words.
 fn row_words(table: &[[bool; 65]; 65]) -> [u64; 64]
-    ensures { result ≡ rowWords table.now }
+    ensures { result ≡ row_words table.now }
 {
     let mut rows = [0u64; 64];
     let mut j: usize = 0;
@@ -247,7 +247,7 @@ fn row_words(table: &[[bool; 65]; 65]) -> [u64; 64]
 // The telephone.
 #[unsafe(no_mangle)]
 pub extern "C" fn yard_ask(sheet: &[u8]) -> YardTold
-    ensures { result ≡ flatTold (asked sheet.now) }
+    ensures { result ≡ flat_told (asked sheet.now) }
 {
     let r = telephone::ask(sheet);
     told(r)
@@ -256,7 +256,7 @@ pub extern "C" fn yard_ask(sheet: &[u8]) -> YardTold
 // The slots of other arrangements.
 #[unsafe(no_mangle)]
 pub extern "C" fn yard_ask_spread(sheet: &[u8]) -> YardSpread
-    ensures { result ≡ flatSpread (spread_of sheet.now) }
+    ensures { result ≡ flat_spread (spread_of sheet.now) }
 {
     let r = arrangement::spread_of(sheet);
     spread(r)
@@ -265,8 +265,8 @@ pub extern "C" fn yard_ask_spread(sheet: &[u8]) -> YardSpread
 // The sheet of the worst arrangement.
 #[unsafe(no_mangle)]
 pub extern "C" fn yard_worst(sheet: &[u8], out: &mut [u8]) -> usize
-    ensures answer { result ≡ length (arranged worstSheet sheet.now (length out.old)) }
-    ensures buffer { out.new ≡ front out.old (arranged worstSheet sheet.now (length out.old)) }
+    ensures answer { result ≡ length (arranged worst_sheet sheet.now (length out.old)) }
+    ensures buffer { out.new ≡ front out.old (arranged worst_sheet sheet.now (length out.old)) }
 {
     arrangement::worst_sheet(sheet, out)
 }
@@ -274,8 +274,8 @@ pub extern "C" fn yard_worst(sheet: &[u8], out: &mut [u8]) -> usize
 // The sheet of the best arrangement.
 #[unsafe(no_mangle)]
 pub extern "C" fn yard_best(sheet: &[u8], out: &mut [u8]) -> usize
-    ensures answer { result ≡ length (arranged bestSheet sheet.now (length out.old)) }
-    ensures buffer { out.new ≡ front out.old (arranged bestSheet sheet.now (length out.old)) }
+    ensures answer { result ≡ length (arranged best_sheet sheet.now (length out.old)) }
+    ensures buffer { out.new ≡ front out.old (arranged best_sheet sheet.now (length out.old)) }
 {
     arrangement::best_sheet(sheet, out)
 }
@@ -283,8 +283,8 @@ pub extern "C" fn yard_best(sheet: &[u8], out: &mut [u8]) -> usize
 // The plan by probe.
 #[unsafe(no_mangle)]
 pub extern "C" fn yard_by_probe(sheet: &[u8], buf: &mut [u8]) -> YardPlanned
-    ensures answer { result ≡ flatPlanned (planMade byProbe sheet.now (length buf.old)).answer }
-    ensures buffer { buf.new ≡ front buf.old (planMade byProbe sheet.now (length buf.old)).written }
+    ensures answer { result ≡ flat_planned (plan_made by_probe sheet.now (length buf.old)).answer }
+    ensures buffer { buf.new ≡ front buf.old (plan_made by_probe sheet.now (length buf.old)).written }
 {
     let r = plan::by_probe(sheet, buf);
     planned(r)
@@ -293,8 +293,8 @@ pub extern "C" fn yard_by_probe(sheet: &[u8], buf: &mut [u8]) -> YardPlanned
 // The plan by level.
 #[unsafe(no_mangle)]
 pub extern "C" fn yard_by_level(sheet: &[u8], buf: &mut [u8]) -> YardPlanned
-    ensures answer { result ≡ flatPlanned (planMade byLevel sheet.now (length buf.old)).answer }
-    ensures buffer { buf.new ≡ front buf.old (planMade byLevel sheet.now (length buf.old)).written }
+    ensures answer { result ≡ flat_planned (plan_made by_level sheet.now (length buf.old)).answer }
+    ensures buffer { buf.new ≡ front buf.old (plan_made by_level sheet.now (length buf.old)).written }
 {
     let r = plan::by_level(sheet, buf);
     planned(r)
@@ -303,7 +303,7 @@ pub extern "C" fn yard_by_level(sheet: &[u8], buf: &mut [u8]) -> YardPlanned
 // The judge, with whom it names.
 #[unsafe(no_mangle)]
 pub extern "C" fn yard_judge(sheet: &[u8], plan: &[u8]) -> YardVerdict
-    ensures { result ≡ flatVerdict (judgement sheet.now plan.now) }
+    ensures { result ≡ flat_verdict (judgement sheet.now plan.now) }
 {
     let r = judge::judgement(sheet, plan);
     verdict(r)
@@ -312,7 +312,7 @@ pub extern "C" fn yard_judge(sheet: &[u8], plan: &[u8]) -> YardVerdict
 // The chooser: which plan, since no reference is handed back across C. It names nobody.
 #[unsafe(no_mangle)]
 pub extern "C" fn yard_choose(sheet: &[u8], first: &[u8], second: &[u8]) -> u8
-    ensures { result ≡ choiceNumber (choice sheet.now first.now second.now) }
+    ensures { result ≡ choice_number (choice sheet.now first.now second.now) }
 {
     let which = chooser::choice(sheet, first, second);
     match which {
@@ -325,8 +325,8 @@ pub extern "C" fn yard_choose(sheet: &[u8], first: &[u8], second: &[u8]) -> u8
 // The plan of merged readings.
 #[unsafe(no_mangle)]
 pub extern "C" fn yard_merged(sheet: &[u8], buf: &mut [u8]) -> YardPlanned
-    ensures answer { result ≡ flatPlanned (mergedMade sheet.now (length buf.old)).answer }
-    ensures buffer { buf.new ≡ front buf.old (mergedMade sheet.now (length buf.old)).written }
+    ensures answer { result ≡ flat_planned (merged_made sheet.now (length buf.old)).answer }
+    ensures buffer { buf.new ≡ front buf.old (merged_made sheet.now (length buf.old)).written }
 {
     let r = plan::merged(sheet, buf);
     planned(r)
@@ -335,7 +335,7 @@ pub extern "C" fn yard_merged(sheet: &[u8], buf: &mut [u8]) -> YardPlanned
 // The judge of merged readings, with whom it names.
 #[unsafe(no_mangle)]
 pub extern "C" fn yard_merged_judge(sheet: &[u8], plan: &[u8]) -> YardVerdict
-    ensures { result ≡ flatVerdict (judgementIn Merged sheet.now plan.now) }
+    ensures { result ≡ flat_verdict (judgement_in Merged sheet.now plan.now) }
 {
     let r = judge::merged_judgement(sheet, plan);
     verdict(r)
@@ -344,7 +344,7 @@ pub extern "C" fn yard_merged_judge(sheet: &[u8], plan: &[u8]) -> YardVerdict
 // The telephone of merged readings.
 #[unsafe(no_mangle)]
 pub extern "C" fn yard_merged_ask(sheet: &[u8]) -> YardMergedTold
-    ensures { result ≡ flatMergedTold (mergedAsked sheet.now) }
+    ensures { result ≡ flat_merged_told (merged_asked sheet.now) }
 {
     let r = merged::ask(sheet);
     merged_told(r)
@@ -353,8 +353,8 @@ pub extern "C" fn yard_merged_ask(sheet: &[u8]) -> YardMergedTold
 // The wake book of a plan.
 #[unsafe(no_mangle)]
 pub extern "C" fn yard_book(sheet: &[u8], plan: &[u8], book: &mut [u8]) -> YardBooked
-    ensures answer { result ≡ flatBooked (bookMade sheet.now plan.now (length book.old)).answer }
-    ensures buffer { book.new ≡ front book.old (bookMade sheet.now plan.now (length book.old)).written }
+    ensures answer { result ≡ flat_booked (book_made sheet.now plan.now (length book.old)).answer }
+    ensures buffer { book.new ≡ front book.old (book_made sheet.now plan.now (length book.old)).written }
 {
     let r = book::wake_book(sheet, plan, book);
     booked(r)
@@ -363,8 +363,8 @@ pub extern "C" fn yard_book(sheet: &[u8], plan: &[u8], book: &mut [u8]) -> YardB
 // The lister's text.
 #[unsafe(no_mangle)]
 pub extern "C" fn yard_list(sheet: &[u8], text: &mut [u8]) -> usize
-    ensures answer { result ≡ listedLength sheet.now text.old }
-    ensures buffer { text.new ≡ listedIn sheet.now text.old }
+    ensures answer { result ≡ listed_length sheet.now text.old }
+    ensures buffer { text.new ≡ listed_in sheet.now text.old }
 {
     listing::list(sheet, text)
 }
@@ -372,8 +372,8 @@ pub extern "C" fn yard_list(sheet: &[u8], text: &mut [u8]) -> usize
 // A graph's text, of a sheet.
 #[unsafe(no_mangle)]
 pub extern "C" fn yard_graph_write(sheet: &[u8], text: &mut [u8]) -> YardDrawn
-    ensures answer { result ≡ flatDrawn (graphMade sheet.now (length text.old)).answer }
-    ensures buffer { text.new ≡ front text.old (graphMade sheet.now (length text.old)).written }
+    ensures answer { result ≡ flat_drawn (graph_made sheet.now (length text.old)).answer }
+    ensures buffer { text.new ≡ front text.old (graph_made sheet.now (length text.old)).written }
 {
     let r = draw::graph_made(sheet, text);
     drawn(r)
@@ -382,8 +382,8 @@ pub extern "C" fn yard_graph_write(sheet: &[u8], text: &mut [u8]) -> YardDrawn
 // A graph's text read into words, one a row.
 #[unsafe(no_mangle)]
 pub extern "C" fn yard_graph_read(text: &[u8], rows: &mut [u64; 64]) -> YardGraph
-    ensures answer { result ≡ flatGraph (graphRead text.now).answer }
-    ensures rows { rows.new ≡ rowWords (graphRead text.now).table }
+    ensures answer { result ≡ flat_graph (graph_read text.now).answer }
+    ensures rows { rows.new ≡ row_words (graph_read text.now).table }
 {
     let mut table = [[false; 65]; 65];
     let r = parse::graph_read(text, &mut table);

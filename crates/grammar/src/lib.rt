@@ -2,7 +2,7 @@
 ghost use Rattle.std.specs.Prelude.{◌≡◌, ◌+◌, length, drop};
 ghost use Rattle.meaning.specs.Words.{least};
 ghost use Rattle.graph.specs.Part.{space, marks, part};
-ghost use Rattle.graph.specs.Lines.{same, is_number, number_at, isComment, isProblem, isEdge, line_of};
+ghost use Rattle.graph.specs.Lines.{same, is_number, number_at, is_comment, is_problem, is_edge, line_of};
 
 use graph::Line;
 
@@ -133,7 +133,7 @@ fn number_at(line: &[u8], k: usize) -> u16
 }
 
 fn is_comment(line: &[u8]) -> bool
-    ensures { result ≡ isComment line.now }
+    ensures { result ≡ is_comment line.now }
 {
     if line.len() == 0 {
         return false;
@@ -142,7 +142,7 @@ fn is_comment(line: &[u8]) -> bool
 }
 
 fn is_problem(line: &[u8]) -> bool
-    ensures { result ≡ isProblem line.now }
+    ensures { result ≡ is_problem line.now }
 {
     if spaces(line) != 3 {
         return false;
@@ -151,7 +151,7 @@ fn is_problem(line: &[u8]) -> bool
 }
 
 fn is_edge(line: &[u8]) -> bool
-    ensures { result ≡ isEdge line.now }
+    ensures { result ≡ is_edge line.now }
 {
     if spaces(line) != 2 {
         return false;

@@ -5,21 +5,21 @@ use Prim.Native.Nat.{ℕ, suc}
 use Prim.Native.String.{String}
 use lib.Dec.{T}
 use lib.ListN.{replicate}
-use Rattle.meaning.specs.Words.{Bytes, forEach, some, sum, tab}
+use Rattle.meaning.specs.Words.{Bytes, for_each, some, sum, tab}
 use Rattle.meaning.specs.Plan.{front}
 use Rattle.meaning.specs.Sheet.{parent_of, interfere}
 use Rattle.meaning.specs.Yard.{reaches, climb, climbed}
-use Rattle.meaning.specs.Conflict.{disturb, conflict, conflictTable}
-use Rattle.meaning.specs.Answer.{◌then◌, inOrder, probeTest, walkTest, pairTest, countsTest, sheetTest}
+use Rattle.meaning.specs.Conflict.{disturb, conflict, conflict_table}
+use Rattle.meaning.specs.Answer.{◌then◌, in_order, probe_test, walk_test, pair_test, counts_test, sheet_test}
 use Rattle.meaning.specs.Lister.{text, decimal}
 use Rattle.conflict.specs.Marks.{marked}
-use Rattle.digits.specs.Digits.{othersStand, digitsSay, numberSaid}
+use Rattle.digits.specs.Digits.{others_stand, digits_say, number_said}
 use Rattle.graph.specs.declared.Graph.{Graph}
 use Rattle.graph.specs.Part.{marks, part}
-use Rattle.graph.specs.Lines.{same, is_number, isProblem, isEdge, line_of}
-use Rattle.graph.specs.Table.{Table, noEdges, withEdge, edgesOf, edges}
-use Rattle.graph.specs.Reading.{unread, mayStand, isAstray, lineTest, taken, faulty, tableAfter, lineRead, lines_read, lastRead, endTest, ended, graphRead}
-use Rattle.graph.specs.Drawing.{texts, problemLine, edgeLine, rowText, tableText, GraphMade, graphMade}
+use Rattle.graph.specs.Lines.{same, is_number, is_problem, is_edge, line_of}
+use Rattle.graph.specs.Table.{Table, no_edges, with_edge, edges_of, edges}
+use Rattle.graph.specs.Reading.{unread, may_stand, is_astray, line_test, taken, faulty, table_after, line_read, lines_read, last_read, end_test, ended, graph_read}
+use Rattle.graph.specs.Drawing.{texts, problem_line, edge_line, row_text, table_text, GraphMade, graph_made}
 
 -- what a row says. `read` gives a text, then number, place and vertices, and for each node from 0 on the nodes that it is joined to. `drawn` gives a
 -- sheet and the length of the buffer lent, whose bytes are all `ee`; then number, place and bytes written; then the whole buffer afterwards
@@ -47,8 +47,8 @@ made : GraphMade → ℕ → Bytes
 made r lent = r.answer.outcome.number ∷ r.answer.outcome.place ∷ r.answer.bytes ∷ front (replicate lent 0xee) r.written
 
 pub true-row : Row → Bool
-true-row (read written answer table) = same (numbers (graphRead (text written)).answer) answer && says (graphRead (text written)).table table
-true-row (drawn sheet lent answer after) = same (made (graphMade sheet lent) lent) (answer ++ after)
+true-row (read written answer table) = same (numbers (graph_read (text written)).answer) answer && says (graph_read (text written)).table table
+true-row (drawn sheet lent answer after) = same (made (graph_made sheet lent) lent) (answer ++ after)
 
 pub all_true : List Row → Bool
 all_true [] = true
@@ -151,9 +151,9 @@ rows =
 
 -- the one claim: every row is true
 pub proved-texts : T (all_true rows)
-unfolding numbers up says made true-row all_true rows forEach some sum tab reaches climb climbed parent_of interfere disturb conflict conflictTable
-    ◌then◌ inOrder probeTest walkTest pairTest countsTest sheetTest text decimal marked othersStand digitsSay numberSaid
-    marks part same is_number isProblem isEdge line_of noEdges withEdge edgesOf edges
-    unread mayStand isAstray lineTest taken faulty tableAfter lineRead lines_read lastRead endTest ended graphRead
-    texts problemLine edgeLine rowText tableText graphMade
+unfolding numbers up says made true-row all_true rows for_each some sum tab reaches climb climbed parent_of interfere disturb conflict conflict_table
+    ◌then◌ in_order probe_test walk_test pair_test counts_test sheet_test text decimal marked others_stand digits_say number_said
+    marks part same is_number is_problem is_edge line_of no_edges with_edge edges_of edges
+    unread may_stand is_astray line_test taken faulty table_after line_read lines_read last_read end_test ended graph_read
+    texts problem_line edge_line row_text table_text graph_made
 proved-texts = tt

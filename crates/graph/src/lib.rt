@@ -1,6 +1,6 @@
 // A graph as text: what is read of it and answered. Its meaning, after docs/RULES.md, stands in specs/.
 ghost use Rattle.std.specs.Prelude.{◌≡◌, cond, ◌≤◌};
-ghost use Rattle.graph.specs.Table.{edgesOf, edges};
+ghost use Rattle.graph.specs.Table.{edges_of, edges};
 
 use meaning::Outcome;
 
@@ -51,7 +51,7 @@ fn one_if(is: bool) -> u16
 
 // How many edges a row of a table has behind its own place.
 fn edges_of(row: &[bool; 65], x: usize) -> u16
-    ensures count { result ≡ edgesOf row.now x }
+    ensures count { result ≡ edges_of row.now x }
     ensures few { result ≤ 65 }
 {
     let mut n: u16 = 0;

@@ -8,12 +8,12 @@ use borrow.Author.Tests.{eq-eqb, ne_eqb}
 use lib.ListN.{length}
 use Rattle.meaning.specs.declared.Mode.{Mode}
 use Rattle.meaning.specs.declared.Outcome.{Outcome}
-use Rattle.meaning.specs.Words.{forEach}
-use Rattle.meaning.specs.Answer.{accepted, isAccepted}
-use Rattle.meaning.specs.Judge.{Judging, slotJudged, slotsJudged}
-use Rattle.laws.proofs.Turns.{forEach-one, forEach-stays}
+use Rattle.meaning.specs.Words.{for_each}
+use Rattle.meaning.specs.Answer.{accepted, is_accepted}
+use Rattle.meaning.specs.Judge.{Judging, slot_judged, slots_judged}
+use Rattle.laws.proofs.Turns.{for_each-one, for_each-stays}
 use Rattle.laws.proofs.Moving.{weigh}
-use Rattle.judge.specs.SlotTurn.{judgingFrom, Ready}
+use Rattle.judge.specs.SlotTurn.{judging_from, Ready}
 use Rattle.judge.proofs.SlotTurn.{turn_inside, turn-long, turn-kept}
 
 -- how far the judge has come, as the code has it
@@ -24,46 +24,46 @@ module _ (mode : Mode) (p : ℕ) (parent : ℕ → ℕ) (relation : ℕ → ℕ 
   -- as far as slot k of many, from what was held before the first
   pub record Going (many : ℕ) (held₀ : List ℕ) (k : ℕ) (outcome : Outcome) (at : ℕ) (held : List ℕ) : Type 0 where
     pub within : k ≤ many
-    pub reached : come outcome at held ≡ slotsJudged mode p parent relation plan k (judgingFrom 2 held₀)
+    pub reached : come outcome at held ≡ slots_judged mode p parent relation plan k (judging_from 2 held₀)
     pub clean : outcome.number ≡ 0
     pub inside : at ≤ length plan
     pub ready : Ready mode p parent held
     pub total : weigh (λ _. 1) held ≡ weigh (λ _. 1) held₀
 
   pub going-starts : (many : ℕ) (held : List ℕ) → 2 ≤ length plan → Ready mode p parent held → Going many held 0 accepted 2 held
-  unfolding slotsJudged forEach
+  unfolding slots_judged for_each
   going-starts many held two ready =
       record { within = omega arith; reached = refl; clean = refl; inside = two; ready = ready; total = refl }
 
   -- only the place and the packets matter to a turn
   turn-from : (place : ℕ) (outcome : Outcome) (at : ℕ) (held : List ℕ)
-      → slotJudged mode p parent relation plan place (judgingFrom at held) ≡ slotJudged mode p parent relation plan place (come outcome at held)
-  unfolding slotJudged
+      → slot_judged mode p parent relation plan place (judging_from at held) ≡ slot_judged mode p parent relation plan place (come outcome at held)
+  unfolding slot_judged
   turn-from place outcome at held = refl
 
   step : ℕ → Judging → Judging
-  step k now = cond (isAccepted now.outcome) (slotJudged mode p parent relation plan (k + 1) now) now
+  step k now = cond (is_accepted now.outcome) (slot_judged mode p parent relation plan (k + 1) now) now
 
   module _ {many : ℕ} {held₀ : List ℕ} {k : ℕ} {outcome : Outcome} {at : ℕ} {held : List ℕ} (so : Going many held₀ k outcome at held) (h : k < many)
       (outcome' : Outcome) (at' : ℕ) (held' : List ℕ)
-      (e : come outcome' at' held' ≡ slotJudged mode p parent relation plan (k + 1) (judgingFrom at held)) where
-    one_more : forEach (k + 1) step (judgingFrom 2 held₀) ≡ come outcome' at' held'
-    unfolding slotsJudged step
+      (e : come outcome' at' held' ≡ slot_judged mode p parent relation plan (k + 1) (judging_from at held)) where
+    one_more : for_each (k + 1) step (judging_from 2 held₀) ≡ come outcome' at' held'
+    unfolding slots_judged step
     one_more =
-        forEach-one k step (judgingFrom 2 held₀)
+        for_each-one k step (judging_from 2 held₀)
         ∙ ap (step k) (sym so.reached)
-        ∙ ap (λ (b : Bool). cond b (slotJudged mode p parent relation plan (k + 1) (come outcome at held)) (come outcome at held))
+        ∙ ap (λ (b : Bool). cond b (slot_judged mode p parent relation plan (k + 1) (come outcome at held)) (come outcome at held))
         (eq-eqb outcome.number 0 so.clean)
         ∙ sym (turn-from (k + 1) outcome at held)
         ∙ sym e
 
     -- the slot passes
     pub going_on : outcome'.number ≡ 0 → Going many held₀ (k + 1) outcome' at' held'
-    unfolding slotsJudged step
+    unfolding slots_judged step
     going_on none =
-        let now : Judging = judgingFrom at held in
-        let held-is : held' ≡ (slotJudged mode p parent relation plan (k + 1) now).held = ap (λ (j : Judging). j.held) e in
-        let at-is : at' ≡ (slotJudged mode p parent relation plan (k + 1) now).at = ap (λ (j : Judging). j.at) e in
+        let now : Judging = judging_from at held in
+        let held-is : held' ≡ (slot_judged mode p parent relation plan (k + 1) now).held = ap (λ (j : Judging). j.held) e in
+        let at-is : at' ≡ (slot_judged mode p parent relation plan (k + 1) now).at = ap (λ (j : Judging). j.at) e in
         let total : weigh (λ _. 1) held' ≡ weigh (λ _. 1) held = ap (weigh (λ _. 1)) held-is ∙ turn-kept mode p parent relation plan (k + 1) now so.ready in
         record {
           within = omega arith;
@@ -81,18 +81,18 @@ module _ (mode : Mode) (p : ℕ) (parent : ℕ → ℕ) (relation : ℕ → ℕ 
         }
 
     -- the slot is refused, and that stays
-    pub going-stops : (outcome'.number ≡ 0 → ⊥) → come outcome' at' held' ≡ slotsJudged mode p parent relation plan many (judgingFrom 2 held₀)
-    unfolding slotsJudged step
+    pub going-stops : (outcome'.number ≡ 0 → ⊥) → come outcome' at' held' ≡ slots_judged mode p parent relation plan many (judging_from 2 held₀)
+    unfolding slots_judged step
     going-stops some =
         sym
-        (forEach-stays (k + 1) many step (judgingFrom 2 held₀) (come outcome' at' held') (omega arith) one_more
+        (for_each-stays (k + 1) many step (judging_from 2 held₀) (come outcome' at' held') (omega arith) one_more
         (λ j _ _.
-        ap (λ (b : Bool). cond b (slotJudged mode p parent relation plan (j + 1) (come outcome' at' held')) (come outcome' at' held'))
+        ap (λ (b : Bool). cond b (slot_judged mode p parent relation plan (j + 1) (come outcome' at' held')) (come outcome' at' held'))
         (ne_eqb outcome'.number 0 some)))
 
   -- no slot is left
   pub going-ends : {many : ℕ} {held₀ : List ℕ} {k : ℕ} {outcome : Outcome} {at : ℕ} {held : List ℕ} → Going many held₀ k outcome at held → many ≤ k
-      → come outcome at held ≡ slotsJudged mode p parent relation plan many (judgingFrom 2 held₀)
+      → come outcome at held ≡ slots_judged mode p parent relation plan many (judging_from 2 held₀)
   going-ends {many} {held₀} {k} so h =
       let all : k ≡ many = omega (arith, so.within) in
-      so.reached ∙ ap (λ (j : ℕ). slotsJudged mode p parent relation plan j (judgingFrom 2 held₀)) all
+      so.reached ∙ ap (λ (j : ℕ). slots_judged mode p parent relation plan j (judging_from 2 held₀)) all

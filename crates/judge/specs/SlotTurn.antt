@@ -5,8 +5,8 @@ use Rattle.meaning.specs.declared.Outcome.{Outcome}
 use Rattle.meaning.specs.declared.Tested.{Tested}
 use Rattle.meaning.specs.declared.Verdict.{Verdict}
 use Rattle.meaning.specs.Words.{Bytes, Relation, places}
-use Rattle.meaning.specs.Yard.{isProbe}
-use Rattle.meaning.specs.Rounds.{goesIn}
+use Rattle.meaning.specs.Yard.{is_probe}
+use Rattle.meaning.specs.Rounds.{goes_in}
 use Rattle.meaning.specs.Answer.{accepted}
 use Rattle.meaning.specs.Judge.{Judging, nobody, names_at}
 use Rattle.laws.proofs.Moving.{weigh}
@@ -21,20 +21,20 @@ abbrev pub Named : Mode → (p : ℕ) → (parent : ℕ → ℕ) → Relation �
 Named mode p parent relation plan now held = now.tested.names ≡ names_at mode p parent relation plan (judging now held) now.tested.outcome.number
 
 -- a number at its place that names nobody
-abbrev pub unnamedAt : (number place : ℕ) → Tested
-unnamedAt number place = record { outcome = record { number = number; place = place }; names = nobody }
+abbrev pub unnamed_at : (number place : ℕ) → Tested
+unnamed_at number place = record { outcome = record { number = number; place = place }; names = nobody }
 
 -- nothing wrong so far, the next slot at a place
-abbrev pub judgingFrom : ℕ → List ℕ → Judging
-judgingFrom at held = record { outcome = accepted; at = at; held = held }
+abbrev pub judging_from : ℕ → List ℕ → Judging
+judging_from at held = record { outcome = accepted; at = at; held = held }
 
 -- what an accepted sheet gives to each slot: few probes, what is sent going to nodes, and few packets or readings
 pub record Ready (mode : Mode) (p : ℕ) (parent : ℕ → ℕ) (held : List ℕ) : Type 0 where
   pub few : p ≤ 63
-  pub parents : (v : ℕ) → isProbe p v ≡ true → goesIn mode parent v < places
+  pub parents : (v : ℕ) → is_probe p v ≡ true → goes_in mode parent v < places
   pub long : length held ≡ places
   pub packets : weigh (λ _. 1) held ≤ 945
 
 -- "Numbers returned": the slots are 0 unless the plan is passed
-abbrev pub refusedVerdict : Outcome → Verdict
-refusedVerdict outcome = record { outcome = outcome; slots = 0 }
+abbrev pub refused_verdict : Outcome → Verdict
+refused_verdict outcome = record { outcome = outcome; slots = 0 }

@@ -1,15 +1,15 @@
 // The judge, of packets and of merged readings: a sheet and anybody's plan in, the verdict and whom it names out.
 ghost use Rattle.std.specs.Prelude.{◌≡◌, true, ◌≤◌, length};
-ghost use Rattle.meaning.specs.Words.{byNode};
+ghost use Rattle.meaning.specs.Words.{by_node};
 ghost use Rattle.meaning.specs.Conflict.{entry};
 ghost use Rattle.meaning.specs.declared.Mode.TheVariants.{Merged};
-ghost use Rattle.meaning.specs.Rounds.{mayIn};
-ghost use Rattle.meaning.specs.Judge.{slotTested, slotJudged, slotsJudged, planJudgedBy, planNamesBy, judgementIn, judgement};
-ghost use Rattle.meaning.specs.Answer.{isAccepted};
+ghost use Rattle.meaning.specs.Rounds.{may_in};
+ghost use Rattle.meaning.specs.Judge.{slot_tested, slot_judged, slots_judged, plan_judged_by, plan_names_by, judgement_in, judgement};
+ghost use Rattle.meaning.specs.Answer.{is_accepted};
 ghost use Rattle.meaning.specs.Legal.{GoodIn, Good};
 ghost use Rattle.meaning.specs.Merged.{MergedGood};
-ghost use Rattle.laws.specs.Few.{atMost63};
-ghost use Rattle.judge.specs.SlotTurn.{judging, judgingFrom, Named, Ready, unnamedAt, refusedVerdict};
+ghost use Rattle.laws.specs.Few.{at_most63};
+ghost use Rattle.judge.specs.SlotTurn.{judging, judging_from, Named, Ready, unnamed_at, refused_verdict};
 
 use meaning::{Judgement, Mode, Outcome, Slot, Tested, Verdict};
 
@@ -22,7 +22,7 @@ struct Judged {
 
 // A refusal that names nobody.
 fn unnamed(number: u8, place: u16) -> Tested
-    ensures { result ≡ unnamedAt number place }
+    ensures { result ≡ unnamed_at number place }
 {
     Tested {
         outcome: Outcome { number, place },
@@ -40,8 +40,8 @@ fn tested(
     number: Slot,
     slot: &[u8],
 ) -> Tested
-    ensures { result ≡ slotTested (atMost63 p) (entry table.now)
-        (mayIn mode (atMost63 p) (byNode parents.now) held.now) number.0 slot.now }
+    ensures { result ≡ slot_tested (at_most63 p) (entry table.now)
+        (may_in mode (at_most63 p) (by_node parents.now) held.now) number.0 slot.now }
 {
     match mode {
         Mode::Packets => slot::slot_tested(p, table, held, number, slot),
@@ -64,10 +64,10 @@ fn slot_judged(
     held: &mut [u16; 65],
 ) -> Judged
     requires inside { at ≤ length plan.now }
-    requires ready { Ready mode p (byNode parents.now) held.old }
+    requires ready { Ready mode p (by_node parents.now) held.old }
     ensures answer { judging result held.new
-        ≡ slotJudged mode p (byNode parents.now) (entry table.now) plan.now number.0 (judgingFrom at held.old) }
-    ensures names { Named mode p (byNode parents.now) (entry table.now) plan.now result held.new }
+        ≡ slot_judged mode p (by_node parents.now) (entry table.now) plan.now number.0 (judging_from at held.old) }
+    ensures names { Named mode p (by_node parents.now) (entry table.now) plan.now result held.new }
 {
     let here = slot::slot_at(plan, at);
     let first = here.first;
@@ -97,10 +97,10 @@ fn slots_judged(
     held: &mut [u16; 65],
 ) -> Judged
     requires two { 2 ≤ length plan.now }
-    requires ready { Ready mode p (byNode parents.now) held.old }
+    requires ready { Ready mode p (by_node parents.now) held.old }
     ensures answer { judging result held.new
-        ≡ slotsJudged mode p (byNode parents.now) (entry table.now) plan.now many (judgingFrom 2 held.old) }
-    ensures names { Named mode p (byNode parents.now) (entry table.now) plan.now result held.new }
+        ≡ slots_judged mode p (by_node parents.now) (entry table.now) plan.now many (judging_from 2 held.old) }
+    ensures names { Named mode p (by_node parents.now) (entry table.now) plan.now result held.new }
 {
     let mut tested = meaning::PASSED;
     let mut at: usize = 2;
@@ -128,9 +128,9 @@ fn plan_judged_by(
     plan: &[u8],
 ) -> Tested
     requires two { 2 ≤ length plan.now }
-    requires ready { Ready mode p (byNode parents.now) first }
-    ensures answer { result.outcome ≡ planJudgedBy mode p (byNode parents.now) (entry table.now) first plan.now }
-    ensures names { result.names ≡ planNamesBy mode p (byNode parents.now) (entry table.now) first plan.now result.outcome.number }
+    requires ready { Ready mode p (by_node parents.now) first }
+    ensures answer { result.outcome ≡ plan_judged_by mode p (by_node parents.now) (entry table.now) first plan.now }
+    ensures names { result.names ≡ plan_names_by mode p (by_node parents.now) (entry table.now) first plan.now result.outcome.number }
 {
     let many = slot::slot_count(plan);
     let mut held = first;
@@ -151,7 +151,7 @@ fn plan_judged_by(
 
 // What the judge answers where it refuses.
 fn refused(tested: Tested) -> Judgement
-    ensures { result ≡ record { verdict = refusedVerdict tested.outcome; names = tested.names } }
+    ensures { result ≡ record { verdict = refused_verdict tested.outcome; names = tested.names } }
 {
     let outcome = tested.outcome;
     let names = tested.names;
@@ -161,9 +161,9 @@ fn refused(tested: Tested) -> Judgement
 
 // Judges a plan against a sheet: the sheet first, then the plan; names whom a refused slot blames.
 fn judgement_in(mode: Mode, sheet: &[u8], plan: &[u8]) -> Judgement
-    ensures answer { result ≡ judgementIn mode sheet.now plan.now }
-    ensures exact { (isAccepted result.verdict.outcome ≡ true → GoodIn mode sheet.now plan.now)
-        × (GoodIn mode sheet.now plan.now → isAccepted result.verdict.outcome ≡ true) }
+    ensures answer { result ≡ judgement_in mode sheet.now plan.now }
+    ensures exact { (is_accepted result.verdict.outcome ≡ true → GoodIn mode sheet.now plan.now)
+        × (GoodIn mode sheet.now plan.now → is_accepted result.verdict.outcome ≡ true) }
 {
     let tree = sheet::read(sheet);
     let read = tree.outcome;
@@ -197,17 +197,17 @@ fn judgement_in(mode: Mode, sheet: &[u8], plan: &[u8]) -> Judgement
 // Judges a plan that brings in every packet.
 pub fn judgement(sheet: &[u8], plan: &[u8]) -> Judgement
     ensures answer { result ≡ judgement sheet.now plan.now }
-    ensures exact { (isAccepted result.verdict.outcome ≡ true → Good sheet.now plan.now)
-        × (Good sheet.now plan.now → isAccepted result.verdict.outcome ≡ true) }
+    ensures exact { (is_accepted result.verdict.outcome ≡ true → Good sheet.now plan.now)
+        × (Good sheet.now plan.now → is_accepted result.verdict.outcome ≡ true) }
 {
     judgement_in(Mode::Packets, sheet, plan)
 }
 
 // Judges a merged plan, in which each probe sends once, after all its children.
 pub fn merged_judgement(sheet: &[u8], plan: &[u8]) -> Judgement
-    ensures answer { result ≡ judgementIn Merged sheet.now plan.now }
-    ensures exact { (isAccepted result.verdict.outcome ≡ true → MergedGood sheet.now plan.now)
-        × (MergedGood sheet.now plan.now → isAccepted result.verdict.outcome ≡ true) }
+    ensures answer { result ≡ judgement_in Merged sheet.now plan.now }
+    ensures exact { (is_accepted result.verdict.outcome ≡ true → MergedGood sheet.now plan.now)
+        × (MergedGood sheet.now plan.now → is_accepted result.verdict.outcome ≡ true) }
 {
     judgement_in(Mode::Merged, sheet, plan)
 }

@@ -10,11 +10,11 @@ use native.Mathlib.Omega.{arith}
 use lib.Dec.{eqb, ltb}
 use lib.ListN.{length, get_or, set, get_or-eq_default}
 use borrow.Author.Tests.{eqb-true, eqb-false, eq-eqb, ne_eqb, ltb-true, ltb-false, lt-ltb, not-true}
-use Rattle.meaning.specs.Words.{forEach, some, sum, count, tab, places}
+use Rattle.meaning.specs.Words.{for_each, some, sum, count, tab, places}
 use Rattle.meaning.specs.Conflict.{degree}
 use Rattle.meaning.specs.Colour.{taken}
-use Rattle.meaning.specs.Channel.{childrenOf, loadOn, leastLoaded, listenersBy}
-use Rattle.laws.proofs.Turns.{below-or-last, some-none, some-where, sum-least, sum-constant, in_sum, length-tab, getD-tab}
+use Rattle.meaning.specs.Channel.{children_of, load_on, least_loaded, listeners_by}
+use Rattle.laws.proofs.Turns.{below-or-last, some-none, some-where, sum-least, sum-constant, in_sum, length-tab, get_or-tab}
 use Rattle.laws.proofs.Slots.{and_left, and_right, true-or-false}
 use Rattle.laws.proofs.Walk.{not-both}
 use Rattle.laws.proofs.Lowest.{Least, least_at}
@@ -33,29 +33,29 @@ below-or-from a b = go (dec_lt a b)
     go (no l) = inr (omega arith)
 
 module _ (p many : ℕ) (children listens : List ℕ) where
-  chosen : Least (loadOn p children listens) (many - 1) (leastLoaded p many children listens)
-  unfolding leastLoaded
-  chosen = least_at (loadOn p children listens) many
+  chosen : Least (load_on p children listens) (many - 1) (least_loaded p many children listens)
+  unfolding least_loaded
+  chosen = least_at (load_on p children listens) many
 
-  pub loaded-some : 1 ≤ leastLoaded p many children listens
+  pub loaded-some : 1 ≤ least_loaded p many children listens
   loaded-some = chosen.from
 
-  pub loaded-few : 1 ≤ many → leastLoaded p many children listens ≤ many
+  pub loaded-few : 1 ≤ many → least_loaded p many children listens ≤ many
   loaded-few some = omega (arith, chosen.to)
 
-  pub loaded-least : 1 ≤ many → (c : ℕ) → 1 ≤ c → c ≤ many → loadOn p children listens (leastLoaded p many children listens) ≤ loadOn p children listens c
+  pub loaded-least : 1 ≤ many → (c : ℕ) → 1 ≤ c → c ≤ many → load_on p children listens (least_loaded p many children listens) ≤ load_on p children listens c
   loaded-least some c l h = chosen.least c l (omega arith)
 
 -- "Channels": every node gets a channel, from 1 to as many as there are; what is no node gets none
 module _ (p : ℕ) (parent : ℕ → ℕ) (many : ℕ) (few : p ≤ 63) (some-channel : 1 ≤ many) where
   children : List ℕ
-  children = tab (p + 2) (childrenOf p parent)
+  children = tab (p + 2) (children_of p parent)
 
   listens : List ℕ
-  listens = listenersBy p parent many
+  listens = listeners_by p parent many
 
   gives : List ℕ → ℕ → ℕ
-  gives l _ = leastLoaded p many children l
+  gives l _ = least_loaded p many children l
 
   gives-some : (l : List ℕ) (v : ℕ) → 1 ≤ gives l v
   unfolding gives
@@ -64,21 +64,21 @@ module _ (p : ℕ) (parent : ℕ → ℕ) (many : ℕ) (few : p ≤ 63) (some-ch
   fits : 1 + (p + 1) ≤ places
   fits = omega arith
 
-  pub listens-some : (v : ℕ) → 1 ≤ v → v ≤ p + 1 → 1 ≤ get_or (listenersBy p parent many) v 0
-  unfolding listenersBy children gives none_yet
+  pub listens-some : (v : ℕ) → 1 ≤ v → v ≤ p + 1 → 1 ≤ get_or (listeners_by p parent many) v 0
+  unfolding listeners_by children gives none_yet
   listens-some v l h = given-all gives gives-some 1 (p + 1) fits children v l (omega arith)
 
-  pub listens-none : (v : ℕ) → (1 ≤ v → v ≤ p + 1 → ⊥) → get_or (listenersBy p parent many) v 0 ≡ 0
-  unfolding listenersBy children gives none_yet
+  pub listens-none : (v : ℕ) → (1 ≤ v → v ≤ p + 1 → ⊥) → get_or (listeners_by p parent many) v 0 ≡ 0
+  unfolding listeners_by children gives none_yet
   listens-none v o = given-outside gives gives-some 1 (p + 1) fits children v (λ l h. o l (omega arith))
 
-  pub listens-few : (v : ℕ) → get_or (listenersBy p parent many) v 0 ≤ many
-  unfolding listenersBy children gives none_yet
+  pub listens-few : (v : ℕ) → get_or (listeners_by p parent many) v 0 ≤ many
+  unfolding listeners_by children gives none_yet
   listens-few =
       given-keeps gives gives-some 1 (p + 1) fits (λ l. (v : ℕ) → get_or l v 0 ≤ many) (λ l none v. omega (arith, none v))
       (λ l v listed from to free so x.
       ⊎_elim (λ e. omega (arith, e.1, loaded-few p many children l some-channel)) (λ e. omega (arith, e.1, so x))
-      (read_set l v (leastLoaded p many children l) x listed))
+      (read_set l v (least_loaded p many children l) x listed))
       children
 
   -- the nodes that have children, as the turns see them: at most as many as channels
@@ -87,7 +87,7 @@ module _ (p : ℕ) (parent : ℕ → ℕ) (many : ℕ) (few : p ≤ 63) (some-ch
 
   beyond : (y : ℕ) → p + 2 ≤ y → get_or children y 0 ≡ 0
   unfolding children
-  beyond y h = get_or-eq_default (tab (p + 2) (childrenOf p parent)) 0 {n = y} (rw (length-tab (p + 2) (childrenOf p parent)) h)
+  beyond y h = get_or-eq_default (tab (p + 2) (children_of p parent)) 0 {n = y} (rw (length-tab (p + 2) (children_of p parent)) h)
 
   module _ (enough : count places heard ≤ many) where
     -- no two that have children have the same channel
@@ -119,7 +119,7 @@ module _ (p : ℕ) (parent : ℕ → ℕ) (many : ℕ) (few : p ≤ 63) (some-ch
           at false b e f = not-both e refl
 
       -- a channel that none of them has has no children
-      unheard : (c : ℕ) → 1 ≤ c → taken others l 0 c ≡ false → loadOn p children l c ≡ 0
+      unheard : (c : ℕ) → 1 ≤ c → taken others l 0 c ≡ false → load_on p children l c ≡ 0
       unfolding others heard
       unheard c some none =
           omega (
@@ -160,10 +160,10 @@ module _ (p : ℕ) (parent : ℕ → ℕ) (many : ℕ) (few : p ≤ 63) (some-ch
               absurd (omega (arith, all, one_fewer, enough))
 
       new : ℕ
-      new = leastLoaded p many children l
+      new = least_loaded p many children l
 
       -- so the channel that it gets has no children yet
-      no-load : loadOn p children l new ≡ 0
+      no-load : load_on p children l new ≡ 0
       unfolding new
       no-load =
           omega (
@@ -186,44 +186,44 @@ module _ (p : ℕ) (parent : ℕ → ℕ) (many : ℕ) (few : p ≤ 63) (some-ch
               omega (arith, some-children, its-load, no-load, in_sum (p + 2) (λ u. cond (eqb (get_or l u 0) new) (get_or children u 0) 0) y h)
           go (no h) = omega (arith, some-children, beyond y (omega arith))
 
-    keeps-own : (l : List ℕ) (v : ℕ) → v < length l → 1 ≤ v → v < 1 + (p + 1) → get_or l v 0 ≡ 0 → Own l → Own (set l v (leastLoaded p many children l))
+    keeps-own : (l : List ℕ) (v : ℕ) → v < length l → 1 ≤ v → v < 1 + (p + 1) → get_or l v 0 ≡ 0 → Own l → Own (set l v (least_loaded p many children l))
     unfolding Own new
     keeps-own l v listed from to free own x y hx hy e =
         ⊎_elim
         (λ at.
         ⊎_elim (λ also. inr (at.0 ∙ sym also.0))
         (λ other. absurd (alone l v listed from to free (ap heard (sym at.0) ∙ hx) y hy (sym other.1 ∙ sym e ∙ at.1)))
-        (read_set l v (leastLoaded p many children l) y listed))
+        (read_set l v (least_loaded p many children l) y listed))
         (λ at.
         ⊎_elim (λ also. absurd (alone l v listed from to free (ap heard (sym also.0) ∙ hy) x hx (sym at.1 ∙ e ∙ also.1)))
         (λ other. ⊎_elim (λ none. inl (at.1 ∙ none)) (λ same. inr same) (own x y hx hy (sym at.1 ∙ e ∙ other.1)))
-        (read_set l v (leastLoaded p many children l) y listed))
-        (read_set l v (leastLoaded p many children l) x listed)
+        (read_set l v (least_loaded p many children l) y listed))
+        (read_set l v (least_loaded p many children l) x listed)
 
-    own-by : Own (listenersBy p parent many)
-    unfolding listenersBy children gives none_yet Own
+    own-by : Own (listeners_by p parent many)
+    unfolding listeners_by children gives none_yet Own
     own-by =
         given-keeps gives gives-some 1 (p + 1) fits Own (λ l none x y _ _ _. inl (none x)) (λ l v listed from to free. keeps-own l v listed from to free) children
 
-  heard-node : (v : ℕ) → v ≤ p + 1 → heard v ≡ ltb 0 (childrenOf p parent v)
+  heard-node : (v : ℕ) → v ≤ p + 1 → heard v ≡ ltb 0 (children_of p parent v)
   unfolding heard children
-  heard-node v h = ap (ltb 0) (getD-tab (p + 2) (childrenOf p parent) v 0 (omega arith))
+  heard-node v h = ap (ltb 0) (get_or-tab (p + 2) (children_of p parent) v 0 (omega arith))
 
-  heard-few : count places heard ≤ count places (λ u. ltb 0 (childrenOf p parent u))
+  heard-few : count places heard ≤ count places (λ u. ltb 0 (children_of p parent u))
   unfolding heard
   heard-few =
-      sum-least places (λ u. cond (heard u) 1 0) (λ u. cond (ltb 0 (childrenOf p parent u)) 1 0)
+      sum-least places (λ u. cond (heard u) 1 0) (λ u. cond (ltb 0 (children_of p parent u)) 1 0)
       (λ u _.
       ⊎_elim (λ (h : u < p + 2). let same = ap {B = ℕ} (λ (b : Bool). cond b 1 0) (heard-node u (omega arith)) in omega (arith, same))
       (λ (h : p + 2 ≤ u). let none = ap {B = ℕ} (λ (n : ℕ). cond (ltb 0 n) 1 0) (beyond u h) in omega (arith, none))
       (below-or-from u (p + 2)))
 
   -- "Channels": with as many channels as parents, or more, each parent has its own
-  pub listens-own : count places (λ u. ltb 0 (childrenOf p parent u)) ≤ many → (x y : ℕ) → 1 ≤ x → x ≤ p + 1 → y ≤ p + 1
-      → 0 < childrenOf p parent x → 0 < childrenOf p parent y
-      → get_or (listenersBy p parent many) x 0 ≡ get_or (listenersBy p parent many) y 0 → x ≡ y
+  pub listens-own : count places (λ u. ltb 0 (children_of p parent u)) ≤ many → (x y : ℕ) → 1 ≤ x → x ≤ p + 1 → y ≤ p + 1
+      → 0 < children_of p parent x → 0 < children_of p parent y
+      → get_or (listeners_by p parent many) x 0 ≡ get_or (listeners_by p parent many) y 0 → x ≡ y
   unfolding Own
   listens-own enough x y from to to' hx hy e =
       ⊎_elim (λ none. absurd (omega (arith, none, listens-some x from to))) (λ same. same)
-      (own-by (omega (arith, enough, heard-few)) x y (heard-node x to ∙ lt-ltb 0 (childrenOf p parent x) hx)
-      (heard-node y to' ∙ lt-ltb 0 (childrenOf p parent y) hy) e)
+      (own-by (omega (arith, enough, heard-few)) x y (heard-node x to ∙ lt-ltb 0 (children_of p parent x) hx)
+      (heard-node y to' ∙ lt-ltb 0 (children_of p parent y) hy) e)

@@ -2,7 +2,7 @@
 use mathlib.Core.Path.{◌≡◌}
 use Prim.Native.Nat.{ℕ, ◌≤◌}
 use native.Mathlib.Omega.{arith}
-use Rattle.laws.specs.Few.{atMost63}
+use Rattle.laws.specs.Few.{at_most63}
 
-pub as_many : (p : ℕ) → p ≤ 63 → atMost63 p ≡ p
+pub as_many : (p : ℕ) → p ≤ 63 → at_most63 p ≡ p
 as_many p few = omega arith

@@ -6,7 +6,7 @@ use Prim.Native.Nat.{ℕ, zero, suc, ◌≤◌, ◌<◌}
 use native.Mathlib.Nat.{not-suc-le-zero}
 use native.Mathlib.Decide.{dec_lt}
 use native.Mathlib.Omega.{arith}
-use Rattle.meaning.specs.Words.{forEach, some, least}
+use Rattle.meaning.specs.Words.{for_each, some, least}
 use Rattle.laws.proofs.Turns.{below-or-last, some-found, some-none}
 use Rattle.laws.proofs.Walk.{not-both}
 
@@ -17,7 +17,7 @@ pub record First (test : ℕ → Bool) (n k : ℕ) : Type 0 where
   pub passes : k < n → test k ≡ true
 
 pub least_first : (n : ℕ) (test : ℕ → Bool) → First test n (least n test)
-unfolding some least forEach
+unfolding some least for_each
 least_first zero test = record { within = omega arith; none = refl; passes = λ h. absurd (not-suc-le-zero h) }
 least_first (suc n) test = go (test (least n test)) refl (least_first n test)
   where

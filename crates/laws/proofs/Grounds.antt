@@ -7,12 +7,12 @@ use Prim.Native.Nat.{ℕ, zero, suc, ◌+◌, ◌*◌, ◌≤◌, ◌<◌}
 use native.Mathlib.Nat.{mul-zero, mul-le-mul}
 use native.Mathlib.Omega.{arith}
 use lib.ListN.{get_or}
-use Rattle.meaning.specs.Words.{sum, sumProbes, tab, places}
-use Rattle.meaning.specs.Yard.{isProbe, climb}
-use Rattle.meaning.specs.Sheet.{probeCount, parent_of, packetsOf, allPackets, levelOf, hops}
-use Rattle.meaning.specs.Answer.{isAccepted, sheetTest}
-use Rattle.meaning.specs.Legal.{heldFirst}
-use Rattle.laws.proofs.Turns.{below-or-last, same-or-other, sum_same, sum-least, sum-constant, getD-tab, getD-places}
+use Rattle.meaning.specs.Words.{sum, sum_probes, tab, places}
+use Rattle.meaning.specs.Yard.{is_probe, climb}
+use Rattle.meaning.specs.Sheet.{probe_count, parent_of, packets_of, all_packets, level_of, hops}
+use Rattle.meaning.specs.Answer.{is_accepted, sheet_test}
+use Rattle.meaning.specs.Legal.{held_first}
+use Rattle.laws.proofs.Turns.{below-or-last, same-or-other, sum_same, sum-least, sum-constant, get_or-tab, get_or-places}
 use Rattle.laws.proofs.Walk.{probe-yes, probe-below, probe-past, probe-least, climb-up, climb-here, climb-most}
 use Rattle.laws.proofs.Moving.{weigh}
 use Rattle.laws.proofs.Slots.{true-or-false}
@@ -35,101 +35,101 @@ sum-two (suc n) f =
     omega (arith, sum-two n f, next)
 
 -- a sum over all nodes of what only probes have is a sum over the probes
-pub sum-probes : (p : ℕ) (f : ℕ → ℕ) → p ≤ 63 → ((k : ℕ) → isProbe p k ≡ false → f k ≡ 0) → sum places f ≡ sumProbes p f
+pub sum-probes : (p : ℕ) (f : ℕ → ℕ) → p ≤ 63 → ((k : ℕ) → is_probe p k ≡ false → f k ≡ 0) → sum places f ≡ sum_probes p f
 sum-probes p f small none =
     sum-behind (suc (suc p)) places f (omega arith) (λ k h. none k (probe-past p k (omega arith)))
     ∙ sum-two p f
     ∙ omega (arith, none 0 (probe-below p 0 (omega arith)), none 1 (probe-below p 1 (omega arith)))
 
 -- before the first slot all packets are at the probes
-pub packets-first : (s : List ℕ) → probeCount s ≤ 63 → weigh (λ _. 1) (heldFirst s) ≡ allPackets s
-unfolding allPackets
+pub packets-first : (s : List ℕ) → probe_count s ≤ 63 → weigh (λ _. 1) (held_first s) ≡ all_packets s
+unfolding all_packets
 packets-first s few =
-    sum_same places (λ k. get_or (heldFirst s) k 0 * 1) (packetsOf s) (λ k hk. omega (arith, getD-tab places (packetsOf s) k 0 hk))
-    ∙ sum-probes (probeCount s) (packetsOf s) few (packets-outside s)
+    sum_same places (λ k. get_or (held_first s) k 0 * 1) (packets_of s) (λ k hk. omega (arith, get_or-tab places (packets_of s) k 0 hk))
+    ∙ sum-probes (probe_count s) (packets_of s) few (packets-outside s)
 
-module _ (s : List ℕ) (ok : isAccepted (sheetTest s) ≡ true) where
-  pub few-probes : probeCount s ≤ 63
+module _ (s : List ℕ) (ok : is_accepted (sheet_test s) ≡ true) where
+  pub few-probes : probe_count s ≤ 63
   few-probes = (accepted-yard s ok).few
 
   -- "Numbers of the yard": a probe's level is that of the walk, one more than its parent's, and nothing else has one
-  probe-level : (v : ℕ) → isProbe (probeCount s) v ≡ true → levelOf s v ≡ climb (parent_of s) (probeCount s) v
-  unfolding levelOf
-  probe-level v h = ap (λ (b : Bool). cond b (climb (parent_of s) (probeCount s) v) 0) h
+  probe-level : (v : ℕ) → is_probe (probe_count s) v ≡ true → level_of s v ≡ climb (parent_of s) (probe_count s) v
+  unfolding level_of
+  probe-level v h = ap (λ (b : Bool). cond b (climb (parent_of s) (probe_count s) v) 0) h
 
-  pub other-level : (v : ℕ) → isProbe (probeCount s) v ≡ false → levelOf s v ≡ 0
-  unfolding levelOf
-  other-level v h = ap (λ (b : Bool). cond b (climb (parent_of s) (probeCount s) v) 0) h
+  pub other-level : (v : ℕ) → is_probe (probe_count s) v ≡ false → level_of s v ≡ 0
+  unfolding level_of
+  other-level v h = ap (λ (b : Bool). cond b (climb (parent_of s) (probe_count s) v) 0) h
 
-  node-level : (v : ℕ) → 1 ≤ v → v ≤ probeCount s + 1 → levelOf s v ≡ climb (parent_of s) (probeCount s) v
+  node-level : (v : ℕ) → 1 ≤ v → v ≤ probe_count s + 1 → level_of s v ≡ climb (parent_of s) (probe_count s) v
   node-level v low high =
       ⊎_elim
-      (λ (e : v ≡ 1). other-level v (probe-below (probeCount s) v (omega arith)) ∙ sym (climb-here (parent_of s) (probeCount s) v e))
-      (λ e. probe-level v (probe-yes (probeCount s) v (omega arith) high))
+      (λ (e : v ≡ 1). other-level v (probe-below (probe_count s) v (omega arith)) ∙ sym (climb-here (parent_of s) (probe_count s) v e))
+      (λ e. probe-level v (probe-yes (probe_count s) v (omega arith) high))
       (same-or-other v 1)
 
-  pub level-up : (v : ℕ) → isProbe (probeCount s) v ≡ true → levelOf s v ≡ suc (levelOf s (parent_of s v))
+  pub level-up : (v : ℕ) → is_probe (probe_count s) v ≡ true → level_of s v ≡ suc (level_of s (parent_of s v))
   level-up v h =
       let probe = (accepted-yard s ok).probe v h in
-      let least = probe-least (probeCount s) v h in
+      let least = probe-least (probe_count s) v h in
       probe-level v h
-      ∙ (climb-up (parent_of s) (probeCount s) v probe.arrives (λ e. omega arith)).0
-      ∙ ap suc (sym (node-level (parent_of s v) probe.parent-least probe.parent-most))
+      ∙ (climb-up (parent_of s) (probe_count s) v probe.arrives (λ e. omega arith)).0
+      ∙ ap suc (sym (node-level (parent_of s v) probe.parent_least probe.parent_most))
 
-  pub level-least : (v : ℕ) → isProbe (probeCount s) v ≡ true → 1 ≤ levelOf s v
+  pub level-least : (v : ℕ) → is_probe (probe_count s) v ≡ true → 1 ≤ level_of s v
   level-least v h = omega (arith, level-up v h)
 
-  pub level-most : (v : ℕ) → levelOf s v ≤ probeCount s
-  level-most v =
-      ⊎_elim (λ (e : isProbe (probeCount s) v ≡ true). omega (arith, probe-level v e, climb-most (parent_of s) (probeCount s) v))
-      (λ (e : isProbe (probeCount s) v ≡ false). omega (arith, other-level v e))
-      (true-or-false (isProbe (probeCount s) v))
+  pub level_most : (v : ℕ) → level_of s v ≤ probe_count s
+  level_most v =
+      ⊎_elim (λ (e : is_probe (probe_count s) v ≡ true). omega (arith, probe-level v e, climb-most (parent_of s) (probe_count s) v))
+      (λ (e : is_probe (probe_count s) v ≡ false). omega (arith, other-level v e))
+      (true-or-false (is_probe (probe_count s) v))
 
   -- what is held at first, weighed by level, is the hops of the sheet
-  pub first-left : weigh (levelOf s) (heldFirst s) ≡ hops s
+  pub first-left : weigh (level_of s) (held_first s) ≡ hops s
   unfolding hops
   first-left =
-      sum_same places (λ k. get_or (heldFirst s) k 0 * levelOf s k) (λ k. packetsOf s k * levelOf s k)
-      (λ k h. ap (λ (x : ℕ). x * levelOf s k) (getD-tab places (packetsOf s) k 0 h))
-      ∙ sum-probes (probeCount s) (λ k. packetsOf s k * levelOf s k) few-probes
-      (λ k h. ap (λ (x : ℕ). packetsOf s k * x) (other-level k h) ∙ mul-zero (packetsOf s k))
+      sum_same places (λ k. get_or (held_first s) k 0 * level_of s k) (λ k. packets_of s k * level_of s k)
+      (λ k h. ap (λ (x : ℕ). x * level_of s k) (get_or-tab places (packets_of s) k 0 h))
+      ∙ sum-probes (probe_count s) (λ k. packets_of s k * level_of s k) few-probes
+      (λ k h. ap (λ (x : ℕ). packets_of s k * x) (other-level k h) ∙ mul-zero (packets_of s k))
 
   -- each of at most 63 probes has at most 15 packets, at most 63 hops away
   pub hops-most : hops s ≤ 59535
   unfolding hops
   hops-most =
-      let each = sum-least (probeCount s) (λ k. packetsOf s (k + 2) * levelOf s (k + 2)) (λ _. 945)
+      let each = sum-least (probe_count s) (λ k. packets_of s (k + 2) * level_of s (k + 2)) (λ _. 945)
       (λ k h.
-      mul-le-mul ((accepted-yard s ok).probe (k + 2) (probe-yes (probeCount s) (k + 2) (omega arith) (omega arith))).packets-most
+      mul-le-mul ((accepted-yard s ok).probe (k + 2) (probe-yes (probe_count s) (k + 2) (omega arith) (omega arith))).packets_most
       (at_most (k + 2))) in
-      omega (arith, each, sum-constant (probeCount s) 945, few-probes)
+      omega (arith, each, sum-constant (probe_count s) 945, few-probes)
     where
-      at_most : (v : ℕ) → levelOf s v ≤ 63
-      at_most v = omega (arith, level-most v, few-probes)
+      at_most : (v : ℕ) → level_of s v ≤ 63
+      at_most v = omega (arith, level_most v, few-probes)
 
   -- the lists by node read as what they were made of
   pub parent-read : (λ (u : ℕ). get_or (tab places (parent_of s)) u 0) ≡ parent_of s
-  parent-read = fun_ext (getD-places (parent_of s) 0 (λ k h. parent-outside s k (probe-past (probeCount s) k (omega (arith, few-probes)))))
+  parent-read = fun_ext (get_or-places (parent_of s) 0 (λ k h. parent-outside s k (probe-past (probe_count s) k (omega (arith, few-probes)))))
 
-  pub packets-read : (k : ℕ) → get_or (heldFirst s) k 0 ≡ packetsOf s k
-  packets-read = getD-places (packetsOf s) 0 (λ k h. packets-outside s k (probe-past (probeCount s) k (omega (arith, few-probes))))
+  pub packets-read : (k : ℕ) → get_or (held_first s) k 0 ≡ packets_of s k
+  packets-read = get_or-places (packets_of s) 0 (λ k h. packets-outside s k (probe-past (probe_count s) k (omega (arith, few-probes))))
 
-  pub parent-node : (v : ℕ) → isProbe (probeCount s) v ≡ true → parent_of s v < places
-  parent-node v h = omega (arith, ((accepted-yard s ok).probe v h).parent-most, few-probes)
+  pub parent-node : (v : ℕ) → is_probe (probe_count s) v ≡ true → parent_of s v < places
+  parent-node v h = omega (arith, ((accepted-yard s ok).probe v h).parent_most, few-probes)
 
   -- all packets together
-  pub few-packets : weigh (λ _. 1) (heldFirst s) ≤ 945
+  pub few-packets : weigh (λ _. 1) (held_first s) ≤ 945
   few-packets =
       omega (
         arith,
-        sum-probes (probeCount s) (λ k. get_or (heldFirst s) k 0 * 1) few-probes (λ k h. omega (arith, packets-read k, packets-outside s k h)),
-        sum-least (probeCount s) (λ k. get_or (heldFirst s) (k + 2) 0 * 1) (λ _. 15)
+        sum-probes (probe_count s) (λ k. get_or (held_first s) k 0 * 1) few-probes (λ k h. omega (arith, packets-read k, packets-outside s k h)),
+        sum-least (probe_count s) (λ k. get_or (held_first s) (k + 2) 0 * 1) (λ _. 15)
             (λ k h.
             omega (
               arith,
               packets-read (k + 2),
-              ((accepted-yard s ok).probe (k + 2) (probe-yes (probeCount s) (k + 2) (omega arith) (omega arith))).packets-most,
+              ((accepted-yard s ok).probe (k + 2) (probe-yes (probe_count s) (k + 2) (omega arith) (omega arith))).packets_most,
             )),
-        sum-constant (probeCount s) 15,
+        sum-constant (probe_count s) 15,
         few-probes,
       )

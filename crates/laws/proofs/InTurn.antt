@@ -27,21 +27,21 @@ sum-within c a m h = sum-grows c (suc a) m h
 
 -- bytes in turn, twice c j of them from j
 module _ (bytes : ℕ → List ℕ) (c : ℕ → ℕ) where
-  pub inTurn-length : (m : ℕ) → ((j : ℕ) → j < m → length (bytes j) ≡ 2 * c j) → length (in_turn m bytes) ≡ 2 * sum m c
+  pub in_turn-length : (m : ℕ) → ((j : ℕ) → j < m → length (bytes j) ≡ 2 * c j) → length (in_turn m bytes) ≡ 2 * sum m c
   unfolding in_turn sum
-  inTurn-length zero long = refl
-  inTurn-length (suc m) long =
-      omega (arith, length-append (in_turn m bytes) (bytes m), inTurn-length m (λ j h. long j (omega arith)), long m (omega arith))
+  in_turn-length zero long = refl
+  in_turn-length (suc m) long =
+      omega (arith, length-append (in_turn m bytes) (bytes m), in_turn-length m (λ j h. long j (omega arith)), long m (omega arith))
 
   -- byte i from a
-  pub inTurn-at : (m : ℕ) → ((j : ℕ) → j < m → length (bytes j) ≡ 2 * c j)
+  pub in_turn-at : (m : ℕ) → ((j : ℕ) → j < m → length (bytes j) ≡ 2 * c j)
       → (a i : ℕ) → a < m → i < 2 * c a → get_or (in_turn m bytes) (2 * sum a c + i) 0 ≡ get_or (bytes a) i 0
   unfolding in_turn
-  inTurn-at zero long a i h l = absurd (not-suc-le-zero h)
-  inTurn-at (suc m) long a i h l =
+  in_turn-at zero long a i h l = absurd (not-suc-le-zero h)
+  in_turn-at (suc m) long a i h l =
       ⊎_elim
       (λ (below : a < m).
-      get_or-append (in_turn m bytes) (bytes m) 0 (2 * sum a c + i) (omega (arith, before, sum-within c a m below)) ∙ inTurn-at m less a i below l)
+      get_or-append (in_turn m bytes) (bytes m) 0 (2 * sum a c + i) (omega (arith, before, sum-within c a m below)) ∙ in_turn-at m less a i below l)
       (λ (last : a ≡ m).
       let at : 2 * sum a c + i ≡ length (in_turn m bytes) + i = omega (arith, before, ap (λ (k : ℕ). sum k c) last) in
       ap (λ (k : ℕ). get_or (in_turn m bytes ++ bytes m) k 0) at
@@ -53,7 +53,7 @@ module _ (bytes : ℕ → List ℕ) (c : ℕ → ℕ) where
       less j k = long j (omega arith)
 
       before : length (in_turn m bytes) ≡ 2 * sum m c
-      before = inTurn-length m less
+      before = in_turn-length m less
 
 -- one part more
 pub in-turn-one : (k : ℕ) (f : ℕ → List ℕ) → in_turn (k + 1) f ≡ in_turn k f ++ f k
@@ -82,20 +82,20 @@ module _ (first second : ℕ → ℕ) where
   two k = first k ∷ second k ∷ []
 
   -- the bytes of n parts, each with its first and its second
-  abbrev pub twoByTwo : ℕ → List ℕ
-  twoByTwo n = in_turn n (λ k. first k ∷ second k ∷ [])
+  abbrev pub two_by_two : ℕ → List ℕ
+  two_by_two n = in_turn n (λ k. first k ∷ second k ∷ [])
 
-  pub two-length : (n : ℕ) → length (twoByTwo n) ≡ 2 * n
-  two-length n = omega (arith, inTurn-length two (λ _. 1) n (λ j h. refl), sum-constant n 1)
+  pub two-length : (n : ℕ) → length (two_by_two n) ≡ 2 * n
+  two-length n = omega (arith, in_turn-length two (λ _. 1) n (λ j h. refl), sum-constant n 1)
 
-  two_at : (n k i : ℕ) → k < n → i < 2 → get_or (twoByTwo n) (2 * k + i) 0 ≡ get_or (two k) i 0
+  two_at : (n k i : ℕ) → k < n → i < 2 → get_or (two_by_two n) (2 * k + i) 0 ≡ get_or (two k) i 0
   two_at n k i h l =
       let at : 2 * k + i ≡ 2 * sum k (λ _. 1) + i = omega (arith, sum-constant k 1) in
-      ap (λ (j : ℕ). get_or (twoByTwo n) j 0) at ∙ inTurn-at two (λ _. 1) n (λ j _. refl) k i h (omega arith)
+      ap (λ (j : ℕ). get_or (two_by_two n) j 0) at ∙ in_turn-at two (λ _. 1) n (λ j _. refl) k i h (omega arith)
 
   -- place 2k has the first byte of part k, and the next place its second
-  pub two-first : (n k : ℕ) → k < n → get_or (twoByTwo n) (2 * k) 0 ≡ first k
-  two-first n k h = let at : 2 * k ≡ 2 * k + 0 = omega arith in ap (λ (j : ℕ). get_or (twoByTwo n) j 0) at ∙ two_at n k 0 h (omega arith)
+  pub two-first : (n k : ℕ) → k < n → get_or (two_by_two n) (2 * k) 0 ≡ first k
+  two-first n k h = let at : 2 * k ≡ 2 * k + 0 = omega arith in ap (λ (j : ℕ). get_or (two_by_two n) j 0) at ∙ two_at n k 0 h (omega arith)
 
-  pub two-second : (n k : ℕ) → k < n → get_or (twoByTwo n) (2 * k + 1) 0 ≡ second k
+  pub two-second : (n k : ℕ) → k < n → get_or (two_by_two n) (2 * k + 1) 0 ≡ second k
   two-second n k h = two_at n k 1 h (omega arith)

@@ -10,9 +10,9 @@ use native.Mathlib.Omega.{arith}
 use borrow.Author.Tests.{not-true}
 use lib.ListN.{length, get_or, set, replicate, length-set, length-append, get_or-eq_default}
 use lib.Seq.{get_or-set_same, get_or-set_other}
-use Rattle.meaning.specs.Words.{forEach, places, someProbe, probesThat}
+use Rattle.meaning.specs.Words.{for_each, places, some_probe, probes_that}
 use Rattle.meaning.specs.Rounds.{joins, joined, clashes, slot_of}
-use Rattle.laws.proofs.Turns.{below-or-last, forEach-one, forEach-keeps, some-found, some-none, some-where, same-or-other}
+use Rattle.laws.proofs.Turns.{below-or-last, for_each-one, for_each-keeps, some-found, some-none, some-where, same-or-other}
 use Rattle.laws.proofs.Walk.{not-both}
 use Rattle.laws.proofs.Moving.{Each}
 use Rattle.laws.proofs.Slots.{and_left, and_right, never, true-or-false, each-probe}
@@ -42,7 +42,7 @@ module _ (relation : ℕ → ℕ → Bool) (may : ℕ → Bool) where
   pub joined-long : (p : ℕ) (chosen : List Bool) → length (joined p relation may chosen) ≡ length chosen
   unfolding joined
   joined-long p chosen =
-      forEach-keeps (λ (l : List Bool). length l ≡ length chosen) p (λ k. joins relation may (k + 2)) chosen refl
+      for_each-keeps (λ (l : List Bool). length l ≡ length chosen) p (λ k. joins relation may (k + 2)) chosen refl
       (λ k _ l e. joins_long (k + 2) l ∙ e)
 
   -- who is chosen stays chosen
@@ -57,7 +57,7 @@ module _ (relation : ℕ → ℕ → Bool) (may : ℕ → Bool) where
           (same-or-other v u)
 
   pub joined-keep : (k p v : ℕ) (chosen : List Bool) → k ≤ p → v < length chosen → Chosen (joined k relation may chosen) v → Chosen (joined p relation may chosen) v
-  unfolding joined forEach
+  unfolding joined for_each
   joined-keep k zero v chosen h l e =
       let none : k ≡ 0 = omega arith in
       subst (λ (j : ℕ). Chosen (joined j relation may chosen) v) none e
@@ -94,7 +94,7 @@ module _ (relation : ℕ → ℕ → Bool) (may : ℕ → Bool) where
             ⊎_elim
             (λ (p : x ≡ u).
             ⊎_elim
-            (λ (q : y ≡ u). ap₂ relation p q ∙ conflicts.never-itself u)
+            (λ (q : y ≡ u). ap₂ relation p q ∙ conflicts.never_itself u)
             (λ (q : y ≢ u).
             ap (λ (z : ℕ). relation z y) p
             ∙ other_way y u (joiner-free u chosen none y (sym (get_or-set_other chosen u y true false q) ∙ hy)))
@@ -110,11 +110,11 @@ module _ (relation : ℕ → ℕ → Bool) (may : ℕ → Bool) where
     pub free-joined : (p : ℕ) (chosen : List Bool) → Free relation chosen → Free relation (joined p relation may chosen)
     unfolding joined
     free-joined p chosen free =
-        forEach-keeps (Free relation) p (λ k. joins relation may (k + 2)) chosen free (λ k _ l h. free-joins (k + 2) l h)
+        for_each-keeps (Free relation) p (λ k. joins relation may (k + 2)) chosen free (λ k _ l h. free-joins (k + 2) l h)
 
     -- where a probe may join, one is chosen: it, or one that it conflicts with
     pub one-joined : (p k : ℕ) (chosen : List Bool) → length chosen ≡ places → k < p → first + many ≤ p + 2 → 2 ≤ first → k + 2 < places → may (k + 2) ≡ true
-        → someProbe p (λ v. get_or (joined p relation may chosen) v false) ≡ true
+        → some_probe p (λ v. get_or (joined p relation may chosen) v false) ≡ true
     unfolding joined
     one-joined p k chosen long h all from node m = go (clashes relation (joined k relation may chosen) (k + 2)) refl
       where
@@ -122,9 +122,9 @@ module _ (relation : ℕ → ℕ → Bool) (may : ℕ → Bool) where
         now = joined k relation may chosen
 
         turn : joined (k + 1) relation may chosen ≡ joins relation may (k + 2) now
-        turn = forEach-one k (λ j. joins relation may (j + 2)) chosen
+        turn = for_each-one k (λ j. joins relation may (j + 2)) chosen
 
-        go : (b : Bool) → clashes relation now (k + 2) ≡ b → someProbe p (λ v. get_or (joined p relation may chosen) v false) ≡ true
+        go : (b : Bool) → clashes relation now (k + 2) ≡ b → some_probe p (λ v. get_or (joined p relation may chosen) v false) ≡ true
         go false e =
             some-found p (λ j. get_or (joined p relation may chosen) (j + 2) false) k h
             (joined-keep (k + 1) p (k + 2) chosen (omega arith) (omega (arith, long))
@@ -146,11 +146,11 @@ module _ (relation : ℕ → ℕ → Bool) (may : ℕ → Bool) where
   each_chosen p owners = each-probe (Chosen (joined p relation may owners)) p (λ v. get_or (joined p relation may owners) v false) (λ k _ e. e)
 
 -- a probe that passes is a sender
-some-sender : (p : ℕ) (test : ℕ → Bool) (k : ℕ) → k < p → test (k + 2) ≡ true → 1 ≤ length (probesThat p test)
-unfolding probesThat
+some-sender : (p : ℕ) (test : ℕ → Bool) (k : ℕ) → k < p → test (k + 2) ≡ true → 1 ≤ length (probes_that p test)
+unfolding probes_that
 some-sender zero test k h e = absurd (not-suc-le-zero h)
 some-sender (suc p) test k h e =
-    let whole = length-append (probesThat p test) (cond (test (p + 2)) ((p + 2) ∷ []) []) in
+    let whole = length-append (probes_that p test) (cond (test (p + 2)) ((p + 2) ∷ []) []) in
     ⊎_elim (λ (l : k < p). omega (arith, whole, some-sender p test k l e))
     (λ (l : k ≡ p).
     let last : length (cond (test (p + 2)) ((p + 2) ∷ []) []) ≡ 1 =
@@ -167,9 +167,9 @@ chosen-within chosen v e = go (dec_lt v (length chosen))
     go (no l) = never (sym (get_or-eq_default chosen false {n = v} (omega arith)) ∙ e)
 
 -- where there is an owner, its slot has a sender
-pub owned-slot : (p : ℕ) (relation : ℕ → ℕ → Bool) (may : ℕ → Bool) (owners : List Bool) → someProbe p (λ v. get_or owners v false) ≡ true
+pub owned-slot : (p : ℕ) (relation : ℕ → ℕ → Bool) (may : ℕ → Bool) (owners : List Bool) → some_probe p (λ v. get_or owners v false) ≡ true
     → 1 ≤ length (slot_of p relation may owners)
-unfolding slot_of joined forEach
+unfolding slot_of joined for_each
 owned-slot p relation may owners e =
     let found = some-where p (λ k. get_or owners (k + 2) false) e in
     let k : ℕ = found.0 in

@@ -6,8 +6,8 @@ use Prim.Native.Nat.{ℕ, zero, suc, ◌+◌, ◌-◌, ◌≤◌, ◌<◌}
 use native.Mathlib.Omega.{arith}
 use lib.Dec.{ltb}
 use borrow.Author.Tests.{ltb-true, ltb-false}
-use Rattle.meaning.specs.Words.{forEach}
-use Rattle.meaning.specs.Order.{leastAt}
+use Rattle.meaning.specs.Words.{for_each}
+use Rattle.meaning.specs.Order.{least_at}
 use Rattle.laws.proofs.Turns.{below-or-last}
 
 module _ (f : ℕ → ℕ) where
@@ -24,10 +24,10 @@ module _ (f : ℕ → ℕ) where
   only : (c : ℕ) → 1 ≤ c → c ≤ 0 + 1 → f 1 ≤ f c
   only c l h = let one : c ≡ 1 = omega arith in subst (λ (d : ℕ). f 1 ≤ f d) (sym one) (omega arith)
 
-  compare : (i : ℕ) → Least i (forEach i compared 1)
-  unfolding forEach compared
+  compare : (i : ℕ) → Least i (for_each i compared 1)
+  unfolding for_each compared
   compare zero = record { from = omega arith; to = omega arith; least = only; lowest = λ c l h. absurd (omega arith) }
-  compare (suc i) = go (forEach i compared 1) (compare i) (ltb (f (i + 2)) (f (forEach i compared 1))) refl
+  compare (suc i) = go (for_each i compared 1) (compare i) (ltb (f (i + 2)) (f (for_each i compared 1))) refl
     where
       go : (best : ℕ) → Least i best → (b : Bool) → ltb (f (i + 2)) (f best) ≡ b → Least (suc i) (cond b (i + 2) best)
       go best so true e =
@@ -53,6 +53,6 @@ module _ (f : ℕ → ℕ) where
             lowest = so.lowest;
           }
 
-  pub least_at : (many : ℕ) → Least (many - 1) (leastAt many f)
-  unfolding leastAt compared
-  least_at many = compare (many - 1)
+  pub least_at_lem : (many : ℕ) → Least (many - 1) (least_at many f)
+  unfolding least_at compared
+  least_at_lem many = compare (many - 1)

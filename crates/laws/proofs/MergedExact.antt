@@ -10,15 +10,15 @@ use lib.ListN.{length, get_or}
 use lib.Seq.{take-length}
 use Rattle.meaning.specs.declared.Mode.TheVariants.{Merged}
 use Rattle.meaning.specs.Words.{least, places}
-use Rattle.meaning.specs.Yard.{isProbe}
-use Rattle.meaning.specs.Sheet.{probeCount, parent_of}
-use Rattle.meaning.specs.Rounds.{ready, heldAfter}
-use Rattle.meaning.specs.Answer.{accepted, isAccepted}
-use Rattle.meaning.specs.Judge.{judgeIn}
+use Rattle.meaning.specs.Yard.{is_probe}
+use Rattle.meaning.specs.Sheet.{probe_count, parent_of}
+use Rattle.meaning.specs.Rounds.{ready, held_after}
+use Rattle.meaning.specs.Answer.{accepted, is_accepted}
+use Rattle.meaning.specs.Judge.{judge_in}
 use Rattle.meaning.specs.Book.{among}
-use Rattle.meaning.specs.Legal.{Legal, mayOf, goesOf, heldIn, GoodIn}
+use Rattle.meaning.specs.Legal.{Legal, may_of, goes_of, held_in, GoodIn}
 use Rattle.meaning.specs.Merged.{SendsIn, MergedGood}
-use Rattle.laws.proofs.Turns.{some-found, getD-tab}
+use Rattle.laws.proofs.Turns.{some-found, get_or-tab}
 use Rattle.laws.proofs.First.{least_first, some_first}
 use Rattle.laws.proofs.Exact.{passed-good, good-passed}
 use Rattle.laws.proofs.MergedHeld.{stands-sends, sends-stands, runs-at, at-runs, Waited, ready-waited, waited-ready}
@@ -27,7 +27,7 @@ use Rattle.laws.proofs.MergedHeld.{held_at, node, has_first, has-stays, has-sent
 -- from what is held to the words
 module _ (s plan : List ℕ) (good : GoodIn Merged s plan) where
   abbrev p : ℕ
-  p = probeCount s
+  p = probe_count s
 
   abbrev many : ℕ
   many = length good.slots
@@ -38,11 +38,11 @@ module _ (s plan : List ℕ) (good : GoodIn Merged s plan) where
   abbrev held_of : ℕ → List ℕ
   held_of k = held_at s good.slots k
 
-  legal : (k : ℕ) → k < many → Legal s (mayOf Merged s (held_of k)) (its k)
-  legal k h = runs-at Merged s (heldIn Merged s) good.slots good.runs k h
+  legal : (k : ℕ) → k < many → Legal s (may_of Merged s (held_of k)) (its k)
+  legal k h = runs-at Merged s (held_in Merged s) good.slots good.runs k h
 
-  sender : (v k : ℕ) → k < many → SendsIn (its k) v → isProbe p v ≡ true
-  sender v k h at = subst (λ (u : ℕ). isProbe p u ≡ true) at.2 ((legal k h).probes at.0 at.1)
+  sender : (v k : ℕ) → k < many → SendsIn (its k) v → is_probe p v ≡ true
+  sender v k h at = subst (λ (u : ℕ). is_probe p u ≡ true) at.2 ((legal k h).probes at.0 at.1)
 
   -- who sends has not sent before, and its children have
   waited : (v k : ℕ) → k < many → SendsIn (its k) v → Waited p (parent_of s) (held_of k) v
@@ -78,14 +78,14 @@ module _ (s plan : List ℕ) (good : GoodIn Merged s plan) where
   first-only v k h at = let found = first-sends v k h at in only-once v k (first v) h found.0 at found.1
 
   -- nothing is held at the end, so each probe sends
-  all-send : (v : ℕ) → isProbe p v ≡ true → (first v < many) × SendsIn (its (first v)) v
+  all-send : (v : ℕ) → is_probe p v ≡ true → (first v < many) × SendsIn (its (first v)) v
   all-send v probe =
-      let end = ap (heldAfter (goesOf Merged s) (heldIn Merged s)) (take-length good.slots) in
+      let end = ap (held_after (goes_of Merged s) (held_in Merged s)) (take-length good.slots) in
       let sent = sent-by s good.slots good.sheet v probe many (omega arith) (ap (λ (held : List ℕ). get_or held v 0) end ∙ good.arrived v probe) in
       first-sends v sent.0 sent.1 sent.2
 
   -- when its parent sends a child holds nothing, so it has sent
-  children-first : (c : ℕ) → isProbe p c ≡ true → isProbe p (parent_of s c) ≡ true → first c < first (parent_of s c)
+  children-first : (c : ℕ) → is_probe p c ≡ true → is_probe p (parent_of s c) ≡ true → first c < first (parent_of s c)
   children-first c probe above =
       let at = all-send (parent_of s c) above in
       let none = (waited (parent_of s c) (first (parent_of s c)) at.0 at.1).sent c probe refl in
@@ -107,41 +107,41 @@ module _ (s plan : List ℕ) (good : GoodIn Merged s plan) where
               holding =
                   λ i l.
                   let within = node s good.slots good.sheet (get_or (its k) i 0) ((legal k h).probes i l) in
-                  omega (arith, getD-tab {A = ℕ} places (λ _. 1) (get_or (its k) i 0) 0 within);
+                  omega (arith, get_or-tab {A = ℕ} places (λ _. 1) (get_or (its k) i 0) 0 within);
               apart = (legal k h).apart;
             };
         when = first;
         sends = all-send;
         once = first-only;
-        after-children = children-first;
+        after_children = children-first;
       }
 
 -- and back
 module _ (s plan : List ℕ) (good : MergedGood s plan) where
-  abbrev itsSlots : List (List ℕ)
-  itsSlots = good.slots
+  abbrev its_slots : List (List ℕ)
+  its_slots = good.slots
 
   -- a probe holds its reading up to the slot in which it sends, and none behind it
-  still : (v : ℕ) → isProbe (probeCount s) v ≡ true → (k : ℕ) → k ≤ good.when v → k ≤ length itsSlots → get_or (held_at s itsSlots k) v 0 ≡ 1
-  still v probe zero h l = has_first s itsSlots good.sheet v probe
+  still : (v : ℕ) → is_probe (probe_count s) v ≡ true → (k : ℕ) → k ≤ good.when v → k ≤ length its_slots → get_or (held_at s its_slots k) v 0 ≡ 1
+  still v probe zero h l = has_first s its_slots good.sheet v probe
   still v probe (suc k) h l =
-      has-stays s itsSlots good.sheet v probe k l (λ at. omega (arith, good.once v k l at)) ∙ still v probe k (omega arith) (omega arith)
+      has-stays s its_slots good.sheet v probe k l (λ at. omega (arith, good.once v k l at)) ∙ still v probe k (omega arith) (omega arith)
 
-  done : (v : ℕ) → isProbe (probeCount s) v ≡ true → (k : ℕ) → good.when v < k → k ≤ length itsSlots → get_or (held_at s itsSlots k) v 0 ≡ 0
-  done v probe k h l = has-sent s itsSlots good.sheet v probe (good.when v) k h l (good.sends v probe).1
+  done : (v : ℕ) → is_probe (probe_count s) v ≡ true → (k : ℕ) → good.when v < k → k ≤ length its_slots → get_or (held_at s its_slots k) v 0 ≡ 0
+  done v probe k h l = has-sent s its_slots good.sheet v probe (good.when v) k h l (good.sends v probe).1
 
   -- so who sends is ready
-  sends-ready : (v k : ℕ) → k < length itsSlots → isProbe (probeCount s) v ≡ true → SendsIn (get_or itsSlots k []) v
-      → 0 < get_or (ready (probeCount s) (parent_of s) (held_at s itsSlots k)) v 0
+  sends-ready : (v k : ℕ) → k < length its_slots → is_probe (probe_count s) v ≡ true → SendsIn (get_or its_slots k []) v
+      → 0 < get_or (ready (probe_count s) (parent_of s) (held_at s its_slots k)) v 0
   sends-ready v k h probe at =
       let now = good.once v k h at in
-      waited-ready (probeCount s) (parent_of s) (held_at s itsSlots k) v (node s itsSlots good.sheet v probe)
+      waited-ready (probe_count s) (parent_of s) (held_at s its_slots k) v (node s its_slots good.sheet v probe)
       (record {
         has = omega (arith, still v probe k (omega arith) (omega arith));
         sent =
             λ c child its.
-            let above = ap (isProbe (probeCount s)) its ∙ probe in
-            done c child k (omega (arith, good.after-children c child above, ap good.when its)) (omega arith);
+            let above = ap (is_probe (probe_count s)) its ∙ probe in
+            done c child k (omega (arith, good.after_children c child above, ap good.when its)) (omega arith);
       })
 
   -- good by what is held
@@ -153,25 +153,25 @@ module _ (s plan : List ℕ) (good : MergedGood s plan) where
         few = good.few;
         written = good.written;
         runs =
-            at-runs Merged s (heldIn Merged s) itsSlots
+            at-runs Merged s (held_in Merged s) its_slots
             (λ k h.
             let clear = good.clear k h in
             record {
               probes = clear.probes;
               rising = clear.rising;
-              holding = λ i l. sends-ready (get_or (get_or itsSlots k []) i 0) k h (clear.probes i l) (i, l, refl);
+              holding = λ i l. sends-ready (get_or (get_or its_slots k []) i 0) k h (clear.probes i l) (i, l, refl);
               apart = clear.apart;
             });
         arrived =
             λ v probe.
-            ap (λ (l : List (List ℕ)). get_or (heldAfter (goesOf Merged s) (heldIn Merged s) l) v 0) (sym (take-length itsSlots))
-            ∙ done v probe (length itsSlots) (good.sends v probe).0 (omega arith);
+            ap (λ (l : List (List ℕ)). get_or (held_after (goes_of Merged s) (held_in Merged s) l) v 0) (sym (take-length its_slots))
+            ∙ done v probe (length its_slots) (good.sends v probe).0 (omega arith);
       }
 
 -- the judge of merged readings passes the plans that are good in words, and no others
-pub merged-passed-good : (s plan : List ℕ) → get_or plan 0 0 < 256 → get_or plan 1 0 < 256 → isAccepted (judgeIn Merged s plan).outcome ≡ true → MergedGood s plan
+pub merged-passed-good : (s plan : List ℕ) → get_or plan 0 0 < 256 → get_or plan 1 0 < 256 → is_accepted (judge_in Merged s plan).outcome ≡ true → MergedGood s plan
 merged-passed-good s plan high low h = good-merged s plan (passed-good Merged s plan high low h)
 
-pub merged-good-passed : (s plan : List ℕ) (good : MergedGood s plan) → judgeIn Merged s plan ≡ record { outcome = accepted; slots = length good.slots }
+pub merged-good-passed : (s plan : List ℕ) (good : MergedGood s plan) → judge_in Merged s plan ≡ record { outcome = accepted; slots = length good.slots }
 unfolding merged-good
 merged-good-passed s plan good = good-passed Merged s plan (merged-good s plan good)

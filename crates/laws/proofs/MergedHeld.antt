@@ -14,14 +14,14 @@ use borrow.Author.Tests.{ltb-true, ltb-false, lt-ltb, eqb-true, eq-eqb, not-true
 use Rattle.meaning.specs.declared.Mode.{Mode}
 use Rattle.meaning.specs.declared.Mode.TheVariants.{Merged}
 use Rattle.meaning.specs.Words.{places}
-use Rattle.meaning.specs.Yard.{isProbe}
-use Rattle.meaning.specs.Sheet.{probeCount}
-use Rattle.meaning.specs.Rounds.{holds, ready, firstIn, hop, moved, heldAfter, waits}
-use Rattle.meaning.specs.Answer.{isAccepted, sheetTest}
+use Rattle.meaning.specs.Yard.{is_probe}
+use Rattle.meaning.specs.Sheet.{probe_count}
+use Rattle.meaning.specs.Rounds.{holds, ready, first_in, hop, moved, held_after, waits}
+use Rattle.meaning.specs.Answer.{is_accepted, sheet_test}
 use Rattle.meaning.specs.Book.{among}
-use Rattle.meaning.specs.Legal.{Legal, mayOf, goesOf, heldIn, RunsIn}
+use Rattle.meaning.specs.Legal.{Legal, may_of, goes_of, held_in, RunsIn}
 use Rattle.meaning.specs.Merged.{SendsIn}
-use Rattle.laws.proofs.Turns.{below-or-last, same-or-other, some-found, some-where, length-tab, getD-tab}
+use Rattle.laws.proofs.Turns.{below-or-last, same-or-other, some-found, some-where, length-tab, get_or-tab}
 use Rattle.laws.proofs.Walk.{not-both, probe-least, probe-most}
 use Rattle.laws.proofs.Moving.{length-hop, length_moved}
 use Rattle.laws.proofs.Slots.{and_left, and_right, true-or-false}
@@ -85,32 +85,32 @@ module _ (v : ℕ) (other : v ≢ 1) where
   moved-sent (u ∷ slot) held (suc i) long one h e =
       moved-sent slot (hop star u held) i (omega (arith, length-hop star u held)) (omega (arith, hop-less u held long)) (le_of_suc-le-suc h) e
 
-length-after : (parent : ℕ → ℕ) (held : List ℕ) (slots : List (List ℕ)) → length (heldAfter parent held slots) ≡ length held
-unfolding heldAfter
+length-after : (parent : ℕ → ℕ) (held : List ℕ) (slots : List (List ℕ)) → length (held_after parent held slots) ≡ length held
+unfolding held_after
 length-after parent held [] = refl
 length-after parent held (slot ∷ slots) = length-after parent (moved parent slot held) slots ∙ length_moved parent slot held
 
 -- slots that run, by place: each is legal when those before it have been sent
 pub runs-at : (mode : Mode) (s held : List ℕ) (slots : List (List ℕ)) → RunsIn mode s held slots
-    → (k : ℕ) → k < length slots → Legal s (mayOf mode s (heldAfter (goesOf mode s) held (take k slots))) (get_or slots k [])
-unfolding RunsIn heldAfter
+    → (k : ℕ) → k < length slots → Legal s (may_of mode s (held_after (goes_of mode s) held (take k slots))) (get_or slots k [])
+unfolding RunsIn held_after
 runs-at mode s held [] runs k h = absurd (not-suc-le-zero h)
 runs-at mode s held (slot ∷ slots) runs zero h = runs.0
-runs-at mode s held (slot ∷ slots) runs (suc k) h = runs-at mode s (moved (goesOf mode s) slot held) slots runs.1 k (le_of_suc-le-suc h)
+runs-at mode s held (slot ∷ slots) runs (suc k) h = runs-at mode s (moved (goes_of mode s) slot held) slots runs.1 k (le_of_suc-le-suc h)
 
 pub at-runs : (mode : Mode) (s held : List ℕ) (slots : List (List ℕ))
-    → ((k : ℕ) → k < length slots → Legal s (mayOf mode s (heldAfter (goesOf mode s) held (take k slots))) (get_or slots k []))
+    → ((k : ℕ) → k < length slots → Legal s (may_of mode s (held_after (goes_of mode s) held (take k slots))) (get_or slots k []))
     → RunsIn mode s held slots
-unfolding RunsIn heldAfter
+unfolding RunsIn held_after
 at-runs mode s held [] legal = tt
 at-runs mode s held (slot ∷ slots) legal =
-    (legal 0 (omega arith), at-runs mode s (moved (goesOf mode s) slot held) slots (λ k h. legal (suc k) (omega arith)))
+    (legal 0 (omega arith), at-runs mode s (moved (goes_of mode s) slot held) slots (λ k h. legal (suc k) (omega arith)))
 
 -- ready, in numbers: it has not sent, and each of its children has
 module _ (p : ℕ) (parent : ℕ → ℕ) (held : List ℕ) (v : ℕ) where
   pub record Waited : Type 0 where
     pub has : 0 < get_or held v 0
-    pub sent : (c : ℕ) → isProbe p c ≡ true → parent c ≡ v → get_or held c 0 ≡ 0
+    pub sent : (c : ℕ) → is_probe p c ≡ true → parent c ≡ v → get_or held c 0 ≡ 0
 
   pub ready-waited : v < places → 0 < get_or (ready p parent held) v 0 → Waited
   ready-waited node h =
@@ -130,26 +130,26 @@ module _ (p : ℕ) (parent : ℕ → ℕ) (held : List ℕ) (v : ℕ) where
 -- what is held when k slots have been sent
 module _ (s : List ℕ) (slots : List (List ℕ)) where
   abbrev pub held_at : ℕ → List ℕ
-  held_at k = heldAfter (goesOf Merged s) (heldIn Merged s) (take k slots)
+  held_at k = held_after (goes_of Merged s) (held_in Merged s) (take k slots)
 
-  abbrev slotAt : ℕ → List ℕ
-  slotAt k = get_or slots k []
+  abbrev slot_at : ℕ → List ℕ
+  slot_at k = get_or slots k []
 
-  held_next : (k : ℕ) → k < length slots → held_at (suc k) ≡ moved (goesOf Merged s) (slotAt k) (held_at k)
-  unfolding heldAfter
+  held_next : (k : ℕ) → k < length slots → held_at (suc k) ≡ moved (goes_of Merged s) (slot_at k) (held_at k)
+  unfolding held_after
   held_next k h =
-      ap (heldAfter (goesOf Merged s) (heldIn Merged s)) (take-suc slots k [] h)
-      ∙ held-append (goesOf Merged s) (heldIn Merged s) (take k slots) (slotAt k ∷ [])
+      ap (held_after (goes_of Merged s) (held_in Merged s)) (take-suc slots k [] h)
+      ∙ held-append (goes_of Merged s) (held_in Merged s) (take k slots) (slot_at k ∷ [])
 
   held-long : (k : ℕ) → length (held_at k) ≡ places
-  held-long k = length-after (goesOf Merged s) (heldIn Merged s) (take k slots) ∙ length-tab places (firstIn Merged s)
+  held-long k = length-after (goes_of Merged s) (held_in Merged s) (take k slots) ∙ length-tab places (first_in Merged s)
 
-  module _ (ok : isAccepted (sheetTest s) ≡ true) (v : ℕ) (probe : isProbe (probeCount s) v ≡ true) where
+  module _ (ok : is_accepted (sheet_test s) ≡ true) (v : ℕ) (probe : is_probe (probe_count s) v ≡ true) where
     pub node : v < places
-    node = omega (arith, probe-most (probeCount s) v probe, few-probes s ok)
+    node = omega (arith, probe-most (probe_count s) v probe, few-probes s ok)
 
     no-gateway : v ≢ 1
-    no-gateway e = omega (arith, probe-least (probeCount s) v probe)
+    no-gateway e = omega (arith, probe-least (probe_count s) v probe)
 
     listed : (k : ℕ) → v < length (held_at k)
     listed k = omega (arith, held-long k, node)
@@ -157,13 +157,13 @@ module _ (s : List ℕ) (slots : List (List ℕ)) where
     abbrev has : ℕ → ℕ
     has k = get_or (held_at k) v 0
 
-    at_next : (k : ℕ) → k < length slots → has (suc k) ≡ get_or (moved (goesOf Merged s) (slotAt k) (held_at k)) v 0
+    at_next : (k : ℕ) → k < length slots → has (suc k) ≡ get_or (moved (goes_of Merged s) (slot_at k) (held_at k)) v 0
     at_next k h = ap (λ (held : List ℕ). get_or held v 0) (held_next k h)
 
     -- at first its own reading
     pub has_first : has 0 ≡ 1
-    unfolding heldAfter
-    has_first = getD-tab places (firstIn Merged s) v 0 node ∙ ap (λ (b : Bool). cond b 1 0) probe
+    unfolding held_after
+    has_first = get_or-tab places (first_in Merged s) v 0 node ∙ ap (λ (b : Bool). cond b 1 0) probe
 
     -- never more than before
     has-less : (j k : ℕ) → j ≤ k → k ≤ length slots → has k ≤ has j
@@ -171,7 +171,7 @@ module _ (s : List ℕ) (slots : List (List ℕ)) where
     has-less j (suc k) h l =
         ⊎_elim
         (λ (below : j < suc k).
-        omega (arith, has-less j k (omega arith) (omega arith), at_next k l, moved-less v no-gateway (slotAt k) (held_at k) (listed k)))
+        omega (arith, has-less j k (omega arith) (omega arith), at_next k l, moved-less v no-gateway (slot_at k) (held_at k) (listed k)))
         (λ (e : j ≡ suc k). omega (arith, ap has e))
         (below-or-last j (suc k) (omega arith))
 
@@ -180,25 +180,25 @@ module _ (s : List ℕ) (slots : List (List ℕ)) where
     has_one k h = omega (arith, has-less 0 k (omega arith) h, has_first)
 
     -- what it had, where it does not send
-    pub has-stays : (k : ℕ) → k < length slots → (SendsIn (slotAt k) v → ⊥) → has (suc k) ≡ has k
-    has-stays k h none = at_next k h ∙ moved-stays v no-gateway (slotAt k) (held_at k) none
+    pub has-stays : (k : ℕ) → k < length slots → (SendsIn (slot_at k) v → ⊥) → has (suc k) ≡ has k
+    has-stays k h none = at_next k h ∙ moved-stays v no-gateway (slot_at k) (held_at k) none
 
     -- none when it has sent, and then for good
-    pub has-sent : (j k : ℕ) → j < k → k ≤ length slots → SendsIn (slotAt j) v → has k ≡ 0
+    pub has-sent : (j k : ℕ) → j < k → k ≤ length slots → SendsIn (slot_at j) v → has k ≡ 0
     has-sent j k h l at =
         omega (
           arith,
           has-less (suc j) k (omega arith) l,
           at_next j (omega arith),
-          moved-sent v no-gateway (slotAt j) (held_at j) at.0 (listed j) (has_one j (omega arith)) at.1 at.2,
+          moved-sent v no-gateway (slot_at j) (held_at j) at.0 (listed j) (has_one j (omega arith)) at.1 at.2,
         )
 
     -- who has none has sent
-    pub sent-by : (k : ℕ) → k ≤ length slots → has k ≡ 0 → (j : ℕ) × (j < k) × SendsIn (slotAt j) v
+    pub sent-by : (k : ℕ) → k ≤ length slots → has k ≡ 0 → (j : ℕ) × (j < k) × SendsIn (slot_at j) v
     sent-by zero h none = absurd (omega (arith, has_first))
     sent-by (suc k) h none =
         ⊎_elim (λ at. (k, omega arith, at))
         (λ not-here.
         let before = sent-by k (omega arith) (sym (has-stays k h not-here) ∙ none) in
         (before.0, omega (arith, before.1), before.2))
-        (sends-or-not (slotAt k) v)
+        (sends-or-not (slot_at k) v)

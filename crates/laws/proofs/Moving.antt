@@ -18,9 +18,9 @@ abbrev pub weigh : (ℕ → ℕ) → List ℕ → ℕ
 weigh w held = sum places (λ k. get_or held k 0 * w k)
 
 -- the same of the senders: what their places weigh together
-unfoldable pub weighAll : (ℕ → ℕ) → List ℕ → ℕ
-weighAll w [] = 0
-weighAll w (v ∷ slot) = w v + weighAll w slot
+unfoldable pub weigh_all : (ℕ → ℕ) → List ℕ → ℕ
+weigh_all w [] = 0
+weigh_all w (v ∷ slot) = w v + weigh_all w slot
 
 -- one place of a list changed
 sum-set : (n : ℕ) (w : ℕ → ℕ) (l : List ℕ) (i a : ℕ) → i < n → i < length l
@@ -103,8 +103,8 @@ sending-on parent v lo held (u ∷ slot) hl h rising sending =
 
 -- a slot
 pub weigh-moved : (w parent : ℕ → ℕ) (lo : ℕ) (slot held : List ℕ) → length held ≡ places → Rising lo slot → Each (Sender parent held) slot
-    → weigh w (moved parent slot held) + weighAll w slot ≡ weigh w held + weighAll (λ v. w (parent v)) slot
-unfolding Rising Each moved weighAll
+    → weigh w (moved parent slot held) + weigh_all w slot ≡ weigh w held + weigh_all (λ v. w (parent v)) slot
+unfolding Rising Each moved weigh_all
 weigh-moved w parent lo [] held hl rising sending = refl
 weigh-moved w parent lo (v ∷ slot) held hl rising sending =
     let first = weigh-hop w parent v held hl sending.0.1 sending.0.2 sending.0.0 in
@@ -113,8 +113,8 @@ weigh-moved w parent lo (v ∷ slot) held hl rising sending =
     omega (arith, first, rest)
 
 -- senders that stand one above their parents
-pub weigh-up : (w parent : ℕ → ℕ) (slot : List ℕ) → Each (λ v. w v ≡ suc (w (parent v))) slot → weighAll w slot ≡ weighAll (λ v. w (parent v)) slot + length slot
-unfolding weighAll Each
+pub weigh-up : (w parent : ℕ → ℕ) (slot : List ℕ) → Each (λ v. w v ≡ suc (w (parent v))) slot → weigh_all w slot ≡ weigh_all (λ v. w (parent v)) slot + length slot
+unfolding weigh_all Each
 weigh-up w parent [] up = refl
 weigh-up w parent (v ∷ slot) up = omega (arith, up.0, weigh-up w parent slot up.1)
 

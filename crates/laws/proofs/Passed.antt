@@ -13,11 +13,11 @@ use borrow.Author.Tests.{ltb-true, ltb-false, leb-false, not-false, lt-ltb}
 use Rattle.meaning.specs.declared.Mode.{Mode}
 use Rattle.meaning.specs.declared.Outcome.{Outcome}
 use Rattle.meaning.specs.Words.{places}
-use Rattle.meaning.specs.Yard.{isProbe}
-use Rattle.meaning.specs.Plan.{next_at, sendersAt}
-use Rattle.meaning.specs.Rounds.{moved, mayIn, goesIn}
-use Rattle.meaning.specs.Answer.{isAccepted, given, ◌then◌}
-use Rattle.meaning.specs.Judge.{slotTest, Judging, slotJudged}
+use Rattle.meaning.specs.Yard.{is_probe}
+use Rattle.meaning.specs.Plan.{next_at, senders_at}
+use Rattle.meaning.specs.Rounds.{moved, may_in, goes_in}
+use Rattle.meaning.specs.Answer.{is_accepted, given, ◌then◌}
+use Rattle.meaning.specs.Judge.{slot_test, Judging, slot_judged}
 use Rattle.laws.proofs.Turns.{some-none}
 use Rattle.laws.proofs.Walk.{probe-least, probe-most}
 use Rattle.laws.proofs.Moving.{Rising, Each, Sender}
@@ -50,14 +50,14 @@ both_false false b e h = absurd (subst (λ (t : Bool). cond t ⊥ Unit) h tt)
 
 -- what the tests of a slot say where they find nothing, sender by sender
 pub record Told (p : ℕ) (relation : ℕ → ℕ → Bool) (held slot : List ℕ) : Type 0 where
-  pub probes : (i : ℕ) → i < length slot → isProbe p (get_or slot i 0) ≡ true
+  pub probes : (i : ℕ) → i < length slot → is_probe p (get_or slot i 0) ≡ true
   pub rises : (i : ℕ) → i + 1 < length slot → get_or slot i 0 < get_or slot (i + 1) 0
   pub holding : (i : ℕ) → i < length slot → 0 < get_or held (get_or slot i 0) 0
   pub apart : (i j : ℕ) → i < j → j < length slot → relation (get_or slot i 0) (get_or slot j 0) ≡ false
 
-pub told : (p : ℕ) (relation : ℕ → ℕ → Bool) (held : List ℕ) (place : ℕ) (slot : List ℕ) → isAccepted (slotTest p relation held place slot) ≡ true
+pub told : (p : ℕ) (relation : ℕ → ℕ → Bool) (held : List ℕ) (place : ℕ) (slot : List ℕ) → is_accepted (slot_test p relation held place slot) ≡ true
     → Told p relation held slot
-unfolding slotTest
+unfolding slot_test
 told p relation held place slot h =
     let first = then-accepted _ _ h in
     let second = then-accepted _ _ first.1 in
@@ -74,25 +74,25 @@ told p relation held place slot h =
 -- the same, of the list of its senders, in a yard whose parents are nodes
 pub record Passed (p : ℕ) (parent : ℕ → ℕ) (relation : ℕ → ℕ → Bool) (held slot : List ℕ) : Type 0 where
   pub rising : Rising 1 slot
-  pub probes : Each (λ v. isProbe p v ≡ true) slot
+  pub probes : Each (λ v. is_probe p v ≡ true) slot
   pub sending : Each (Sender parent held) slot
   pub apart : Apart relation slot
 
 pub passed : (mode : Mode) (p : ℕ) (parent : ℕ → ℕ) (relation : ℕ → ℕ → Bool) (held slot : List ℕ) (place : ℕ) → p ≤ 63
-    → ((v : ℕ) → isProbe p v ≡ true → goesIn mode parent v < places) → isAccepted (slotTest p relation (mayIn mode p parent held) place slot) ≡ true
-    → Passed p (goesIn mode parent) relation held slot
+    → ((v : ℕ) → is_probe p v ≡ true → goes_in mode parent v < places) → is_accepted (slot_test p relation (may_in mode p parent held) place slot) ≡ true
+    → Passed p (goes_in mode parent) relation held slot
 passed mode p parent relation held slot place few inside h =
-    let is = told p relation (mayIn mode p parent held) place slot h in
+    let is = told p relation (may_in mode p parent held) place slot h in
     record {
       rising =
           rising-read 1 slot (λ hi. omega (arith, probe-least p (get_or slot 0 0) (is.probes 0 hi)))
           (λ i hi. subst (λ (j : ℕ). get_or slot i 0 < get_or slot j 0) (add-one i) (is.rises i (omega arith)));
-      probes = at_each (λ v. isProbe p v ≡ true) slot is.probes;
+      probes = at_each (λ v. is_probe p v ≡ true) slot is.probes;
       sending =
-          at_each (Sender (goesIn mode parent) held) slot
+          at_each (Sender (goes_in mode parent) held) slot
           (λ i hi. (
             ltb-true 0 (get_or held (get_or slot i 0) 0)
-                (may-holds mode p parent held (get_or slot i 0) (lt-ltb 0 (get_or (mayIn mode p parent held) (get_or slot i 0) 0) (is.holding i hi))),
+                (may-holds mode p parent held (get_or slot i 0) (lt-ltb 0 (get_or (may_in mode p parent held) (get_or slot i 0) 0) (is.holding i hi))),
             omega (arith, probe-most p (get_or slot i 0) (is.probes i hi)),
             inside (get_or slot i 0) (is.probes i hi),
           ));
@@ -102,40 +102,40 @@ passed mode p parent relation held slot place few inside h =
 -- the turn of one slot
 module _ (mode : Mode) (p : ℕ) (parent : ℕ → ℕ) (relation : ℕ → ℕ → Bool) (plan : List ℕ) (place : ℕ) (now : Judging) where
   abbrev slot : List ℕ
-  slot = sendersAt plan now.at
+  slot = senders_at plan now.at
 
   abbrev test : Outcome
-  test = slotTest p relation (mayIn mode p parent now.held) place slot
+  test = slot_test p relation (may_in mode p parent now.held) place slot
 
   abbrev answer : Outcome
   answer = given 11 place (ltb (length plan) (next_at plan now.at)) then test
 
   abbrev after : Judging
-  after = slotJudged mode p parent relation plan place now
+  after = slot_judged mode p parent relation plan place now
 
   -- it passes: it ends within the plan, its tests find nothing, and its packets move
   pub record Passes : Type 0 where
     pub within : next_at plan now.at ≤ length plan
-    pub tested : isAccepted test ≡ true
+    pub tested : is_accepted test ≡ true
     pub next : after.at ≡ next_at plan now.at
-    pub moves : after.held ≡ moved (goesIn mode parent) slot now.held
+    pub moves : after.held ≡ moved (goes_in mode parent) slot now.held
 
   -- it is refused: nothing moves
   pub record Refused : Type 0 where
-    pub refused : isAccepted after.outcome ≡ false
+    pub refused : is_accepted after.outcome ≡ false
     pub stays : after.at ≡ now.at
     pub rests : after.held ≡ now.held
 
   pub turn : Passes ⊎ Refused
-  unfolding slotJudged
-  turn = go (isAccepted answer) refl
+  unfolding slot_judged
+  turn = go (is_accepted answer) refl
     where
       ways : Bool → Judging
       ways b =
-          cond b (record { outcome = answer; at = next_at plan now.at; held = moved (goesIn mode parent) slot now.held })
+          cond b (record { outcome = answer; at = next_at plan now.at; held = moved (goes_in mode parent) slot now.held })
           (record { outcome = answer; at = now.at; held = now.held })
 
-      go : (b : Bool) → isAccepted answer ≡ b → Passes ⊎ Refused
+      go : (b : Bool) → is_accepted answer ≡ b → Passes ⊎ Refused
       go true e =
           let both = then-accepted _ _ e in
           inl
@@ -148,7 +148,7 @@ module _ (mode : Mode) (p : ℕ) (parent : ℕ → ℕ) (relation : ℕ → ℕ 
       go false e =
           inr
           (record {
-            refused = subst (λ (b : Bool). isAccepted (ways b).outcome ≡ false) (mathlib.Core.Path.sym e) e;
+            refused = subst (λ (b : Bool). is_accepted (ways b).outcome ≡ false) (mathlib.Core.Path.sym e) e;
             stays = ap (λ (b : Bool). (ways b).at) e;
             rests = ap (λ (b : Bool). (ways b).held) e;
           })

@@ -10,25 +10,25 @@ use native.Mathlib.Omega.{arith}
 use lib.ListN.{length, get_or, length-append, get_or-append}
 use lib.Seq.{get_or-append_seam}
 use Rattle.meaning.specs.declared.Mode.{Mode}
-use Rattle.meaning.specs.Words.{someProbe}
-use Rattle.meaning.specs.Rounds.{holds, outside, firstIn, sendingsIn, slot_of, turn_of, heldAfter, Progress, recorded, Way, turn, round, rounds, before, slotsIn}
-use Rattle.laws.proofs.Turns.{below-or-last, forEach-keeps}
+use Rattle.meaning.specs.Words.{some_probe}
+use Rattle.meaning.specs.Rounds.{holds, outside, first_in, sendings_in, slot_of, turn_of, held_after, Progress, recorded, Way, turn, round, rounds, before, slots_in}
+use Rattle.laws.proofs.Turns.{below-or-last, for_each-keeps}
 use Rattle.laws.proofs.Joining.{owned-slot}
 
 pub recorded-none : (parent : ℕ → ℕ) (now : Progress) → recorded parent [] now ≡ now
-unfolding recorded heldAfter
+unfolding recorded held_after
 recorded-none parent now = λ i. record { held = now.held; slots = append-nil now.slots i }
 
 -- what a turn makes: no slot, or one that has a sender
 module _ (p : ℕ) (relation : ℕ → ℕ → Bool) (may : ℕ → Bool) (owners : List Bool) where
   pub turn-makes : (turn_of p relation may owners ≡ []) ⊎ ((turn_of p relation may owners ≡ slot_of p relation may owners ∷ []) × (1 ≤ length (slot_of p relation may owners)))
   unfolding turn_of
-  turn-makes = go (someProbe p (λ v. get_or owners v false)) refl
+  turn-makes = go (some_probe p (λ v. get_or owners v false)) refl
     where
       slot : List ℕ
       slot = slot_of p relation may owners
 
-      go : (b : Bool) → someProbe p (λ v. get_or owners v false) ≡ b → (cond b (slot ∷ []) [] ≡ []) ⊎ ((cond b (slot ∷ []) [] ≡ slot ∷ []) × (1 ≤ length slot))
+      go : (b : Bool) → some_probe p (λ v. get_or owners v false) ≡ b → (cond b (slot ∷ []) [] ≡ []) ⊎ ((cond b (slot ∷ []) [] ≡ slot ∷ []) × (1 ≤ length slot))
       go true e = inr (refl, owned-slot p relation may owners e)
       go false e = inl refl
 
@@ -57,7 +57,7 @@ module _ (way : Way) where
   round_keeps : (now : Progress) → HaveSenders now → HaveSenders (round way now)
   unfolding round
   round_keeps now has =
-      forEach-keeps HaveSenders way.colours (λ s was. recorded way.goes (turn way (s + 1) was.held) was) now has (λ s _. turn-keeps (s + 1))
+      for_each-keeps HaveSenders way.colours (λ s was. recorded way.goes (turn way (s + 1) was.held) was) now has (λ s _. turn-keeps (s + 1))
 
   -- another round, or none
   busy-keeps : (b : Bool) (now : Progress) → HaveSenders now → HaveSenders (cond b (round way now) now)
@@ -67,10 +67,10 @@ module _ (way : Way) where
   rounds-keep : (many : ℕ) (now : Progress) → HaveSenders now → HaveSenders (rounds way many now)
   unfolding rounds
   rounds-keep many now has =
-      forEach-keeps HaveSenders many (λ _ was. cond (outside way.probes was.held) (round way was) was) now has
+      for_each-keeps HaveSenders many (λ _ was. cond (outside way.probes was.held) (round way was) was) now has
       (λ _ _ was. busy-keeps (outside way.probes was.held) was)
 
 -- every slot of a plan has a sender, by whatever way
-pub no-empty-slot : (mode : Mode) (s : List ℕ) (way : Way) (k : ℕ) → k < length (slotsIn mode s way) → 0 < length (get_or (slotsIn mode s way) k [])
-unfolding slotsIn
-no-empty-slot mode s way = rounds-keep way (sendingsIn mode s) (before (firstIn mode s)) (λ k h. absurd (not-suc-le-zero h))
+pub no-empty-slot : (mode : Mode) (s : List ℕ) (way : Way) (k : ℕ) → k < length (slots_in mode s way) → 0 < length (get_or (slots_in mode s way) k [])
+unfolding slots_in
+no-empty-slot mode s way = rounds-keep way (sendings_in mode s) (before (first_in mode s)) (λ k h. absurd (not-suc-le-zero h))

@@ -7,9 +7,9 @@ use Prim.Native.Nat.{ℕ, zero, suc, ◌+◌, ◌≤◌, ◌<◌}
 use native.Mathlib.Omega.{arith}
 use lib.ListN.{get_or, set}
 use lib.Seq.{get_or-set_other}
-use Rattle.meaning.specs.Words.{probesThat}
+use Rattle.meaning.specs.Words.{probes_that}
 use Rattle.meaning.specs.Rounds.{joins, joined, clashes, slot_of}
-use Rattle.laws.proofs.Turns.{forEach-keeps, same-or-other}
+use Rattle.laws.proofs.Turns.{for_each-keeps, same-or-other}
 use Rattle.laws.proofs.Moving.{Rising, Each}
 
 pub true-or-false : (b : Bool) → (b ≡ true) ⊎ (b ≡ false)
@@ -43,26 +43,26 @@ rising_snoc lo v [] h r e = (h, tt)
 rising_snoc lo v (x ∷ xs) h r e = (r.0, rising_snoc x v xs e.0 r.1 e.1)
 
 -- the probes that pass a test: each passes it, and they rise
-pub each-probe : (P : ℕ → Type 0) (p : ℕ) (test : ℕ → Bool) → ((k : ℕ) → k < p → test (k + 2) ≡ true → P (k + 2)) → Each P (probesThat p test)
-unfolding Each probesThat
+pub each-probe : (P : ℕ → Type 0) (p : ℕ) (test : ℕ → Bool) → ((k : ℕ) → k < p → test (k + 2) ≡ true → P (k + 2)) → Each P (probes_that p test)
+unfolding Each probes_that
 each-probe P zero test h = tt
 each-probe P (suc p) test h =
-    each_append P (probesThat p test) (cond (test (p + 2)) ((p + 2) ∷ []) []) (each-probe P p test (λ k hk. h k (omega arith)))
+    each_append P (probes_that p test) (cond (test (p + 2)) ((p + 2) ∷ []) []) (each-probe P p test (λ k hk. h k (omega arith)))
     (last (test (p + 2)) refl)
   where
     last : (b : Bool) → test (p + 2) ≡ b → Each P (cond b ((p + 2) ∷ []) [])
     last true e = (h p (omega arith) e, tt)
     last false e = tt
 
-pub rising-probes : (p : ℕ) (test : ℕ → Bool) → Rising 1 (probesThat p test)
-unfolding Rising probesThat
+pub rising-probes : (p : ℕ) (test : ℕ → Bool) → Rising 1 (probes_that p test)
+unfolding Rising probes_that
 rising-probes zero test = tt
 rising-probes (suc p) test = last (test (p + 2)) (rising-probes p test) (each-probe (λ u. u < p + 2) p test (λ k hk e. omega arith))
   where
-    last : (b : Bool) → Rising 1 (probesThat p test) → Each (λ u. u < p + 2) (probesThat p test)
-        → Rising 1 (probesThat p test ++ cond b ((p + 2) ∷ []) [])
-    last true r e = rising_snoc 1 (p + 2) (probesThat p test) (omega arith) r e
-    last false r e = subst (λ (l : List ℕ). Rising 1 l) (sym (mathlib.Core.List.append-nil (probesThat p test))) r
+    last : (b : Bool) → Rising 1 (probes_that p test) → Each (λ u. u < p + 2) (probes_that p test)
+        → Rising 1 (probes_that p test ++ cond b ((p + 2) ∷ []) [])
+    last true r e = rising_snoc 1 (p + 2) (probes_that p test) (omega arith) r e
+    last false r e = subst (λ (l : List ℕ). Rising 1 l) (sym (mathlib.Core.List.append-nil (probes_that p test))) r
 
 -- only those that may are chosen
 abbrev pub Only : (ℕ → Bool) → List Bool → Type 0
@@ -81,7 +81,7 @@ only-joins relation may u chosen only = go (may u && not (clashes relation chose
 pub only-joined : (p : ℕ) (relation : ℕ → ℕ → Bool) (may : ℕ → Bool) (chosen : List Bool) → Only may chosen → Only may (joined p relation may chosen)
 unfolding joined
 only-joined p relation may chosen only =
-    forEach-keeps (Only may) p (λ k. joins relation may (k + 2)) chosen only (λ k hk a h. only-joins relation may (k + 2) a h)
+    for_each-keeps (Only may) p (λ k. joins relation may (k + 2)) chosen only (λ k hk a h. only-joins relation may (k + 2) a h)
 
 -- the senders of a slot may send
 pub each-slot : (p : ℕ) (relation : ℕ → ℕ → Bool) (may : ℕ → Bool) (owners : List Bool) → Only may owners

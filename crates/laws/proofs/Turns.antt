@@ -10,7 +10,7 @@ use native.Mathlib.Decide.{dec_lt, ℕ_discrete}
 use native.Mathlib.Omega.{arith}
 use lib.ListN.{length, get_or, take, set, length-append, length-set, get_or-append, get_or-eq_default}
 use lib.Seq.{get_or-append_seam, get_or-set_same, get_or-set_other, take-suc-set, take_all, ext_get_or}
-use Rattle.meaning.specs.Words.{forEach, some, sum, most, tab, places}
+use Rattle.meaning.specs.Words.{for_each, some, sum, most, tab, places}
 
 -- a number below n + 1 is below n or is n
 pub below-or-last : (k n : ℕ) → k < suc n → (k < n) ⊎ (k ≡ n)
@@ -29,38 +29,38 @@ same-or-other a b = go (ℕ_discrete a b)
     go (no e) = inr e
 
 -- turn i + 1 comes after turn i
-pub forEach-one : {A : Type 0} (i : ℕ) (step : ℕ → A → A) (start : A) → forEach (i + 1) step start ≡ step i (forEach i step start)
-unfolding forEach
-forEach-one i step start = rw (add-one i)
+pub for_each-one : {A : Type 0} (i : ℕ) (step : ℕ → A → A) (start : A) → for_each (i + 1) step start ≡ step i (for_each i step start)
+unfolding for_each
+for_each-one i step start = rw (add-one i)
 
 -- what the later turns leave alone stays
-pub forEach-stays : {A : Type 0} (i n : ℕ) (step : ℕ → A → A) (start a : A) → i ≤ n → forEach i step start ≡ a
-    → ((k : ℕ) → i ≤ k → k < n → step k a ≡ a) → forEach n step start ≡ a
-unfolding forEach
-forEach-stays i zero step start a h e stay =
+pub for_each-stays : {A : Type 0} (i n : ℕ) (step : ℕ → A → A) (start a : A) → i ≤ n → for_each i step start ≡ a
+    → ((k : ℕ) → i ≤ k → k < n → step k a ≡ a) → for_each n step start ≡ a
+unfolding for_each
+for_each-stays i zero step start a h e stay =
     let none : i ≡ 0 = omega arith in
-    subst (λ (j : ℕ). forEach j step start ≡ a) none e
-forEach-stays i (suc n) step start a h e stay =
+    subst (λ (j : ℕ). for_each j step start ≡ a) none e
+for_each-stays i (suc n) step start a h e stay =
     ⊎_elim
     (λ (l : i < suc n).
     let below : i ≤ n = omega arith in
-    ap (step n) (forEach-stays i n step start a below e (λ k hi hk. stay k hi (omega arith))) ∙ stay n below (omega arith))
-    (λ (l : i ≡ suc n). subst (λ (j : ℕ). forEach j step start ≡ a) l e)
+    ap (step n) (for_each-stays i n step start a below e (λ k hi hk. stay k hi (omega arith))) ∙ stay n below (omega arith))
+    (λ (l : i ≡ suc n). subst (λ (j : ℕ). for_each j step start ≡ a) l e)
     (below-or-last i (suc n) (omega arith))
 
 -- steps that agree come to the same
-pub forEach-same : {A : Type 0} (n : ℕ) (f g : ℕ → A → A) (start : A) → ((k : ℕ) → k < n → (a : A) → f k a ≡ g k a) → forEach n f start ≡ forEach n g start
-unfolding forEach
-forEach-same zero f g start e = refl
-forEach-same (suc n) f g start e = e n (omega arith) (forEach n f start) ∙ ap (g n) (forEach-same n f g start (λ k h. e k (omega arith)))
+pub for_each-same : {A : Type 0} (n : ℕ) (f g : ℕ → A → A) (start : A) → ((k : ℕ) → k < n → (a : A) → f k a ≡ g k a) → for_each n f start ≡ for_each n g start
+unfolding for_each
+for_each-same zero f g start e = refl
+for_each-same (suc n) f g start e = e n (omega arith) (for_each n f start) ∙ ap (g n) (for_each-same n f g start (λ k h. e k (omega arith)))
 
 -- what each turn keeps true stays true
-pub forEach-keeps : {A : Type 0} (P : A → Type 0) (n : ℕ) (step : ℕ → A → A) (start : A) → P start
-    → ((k : ℕ) → k < n → (a : A) → P a → P (step k a)) → P (forEach n step start)
-unfolding forEach
-forEach-keeps P zero step start p keep = p
-forEach-keeps P (suc n) step start p keep =
-    keep n (omega arith) (forEach n step start) (forEach-keeps P n step start p (λ k h. keep k (omega arith)))
+pub for_each-keeps : {A : Type 0} (P : A → Type 0) (n : ℕ) (step : ℕ → A → A) (start : A) → P start
+    → ((k : ℕ) → k < n → (a : A) → P a → P (step k a)) → P (for_each n step start)
+unfolding for_each
+for_each-keeps P zero step start p keep = p
+for_each-keeps P (suc n) step start p keep =
+    keep n (omega arith) (for_each n step start) (for_each-keeps P n step start p (λ k h. keep k (omega arith)))
 
 -- one more number to look at
 pub some_one : (i : ℕ) (test : ℕ → Bool) → some (i + 1) test ≡ (some i test || test i)
@@ -152,23 +152,23 @@ unfolding tab
 length-tab zero f = refl
 length-tab (suc n) f = length-append (tab n f) (f n ∷ []) ∙ (rw (length-tab n f) (add-one n))
 
-pub getD-tab : {A : Type 0} (n : ℕ) (f : ℕ → A) (k : ℕ) (d : A) → k < n → get_or (tab n f) k d ≡ f k
+pub get_or-tab : {A : Type 0} (n : ℕ) (f : ℕ → A) (k : ℕ) (d : A) → k < n → get_or (tab n f) k d ≡ f k
 unfolding tab
-getD-tab zero f k d h = absurd (not-suc-le-zero h)
-getD-tab (suc n) f k d h =
+get_or-tab zero f k d h = absurd (not-suc-le-zero h)
+get_or-tab (suc n) f k d h =
     ⊎_elim
     (λ (l : k < n).
-    get_or-append (tab n f) (f n ∷ []) d k (subst (λ (m : ℕ). k < m) (sym (length-tab n f)) l) ∙ getD-tab n f k d l)
+    get_or-append (tab n f) (f n ∷ []) d k (subst (λ (m : ℕ). k < m) (sym (length-tab n f)) l) ∙ get_or-tab n f k d l)
     (λ (l : k ≡ n).
     ap (λ (j : ℕ). get_or (tab n f ++ (f n ∷ [])) j d) (l ∙ sym (length-tab n f)) ∙ get_or-append_seam (tab n f) (f n) [] d ∙ ap f (sym l))
     (below-or-last k n h)
 
 -- a list by node, read at any number, is the function that it was made of, if that is `d` outside
-pub getD-places : {A : Type 0} (f : ℕ → A) (d : A) → ((k : ℕ) → places ≤ k → f k ≡ d) → (k : ℕ) → get_or (tab places f) k d ≡ f k
-getD-places f d outside k = go (dec_lt k places)
+pub get_or-places : {A : Type 0} (f : ℕ → A) (d : A) → ((k : ℕ) → places ≤ k → f k ≡ d) → (k : ℕ) → get_or (tab places f) k d ≡ f k
+get_or-places f d outside k = go (dec_lt k places)
   where
     go : Dec (k < places) → get_or (tab places f) k d ≡ f k
-    go (yes l) = getD-tab places f k d l
+    go (yes l) = get_or-tab places f k d l
     go (no l) =
         let past : places ≤ k = omega arith in
         get_or-eq_default (tab places f) d (subst (λ (m : ℕ). m ≤ k) (sym (length-tab places f)) past) ∙ sym (outside k past)
@@ -191,7 +191,7 @@ tab-full l n f h e = sym (take_all n l (omega arith)) ∙ e
 pub tab-of : {A : Type 0} (n : ℕ) (l : List A) (d : A) → length l ≡ n → tab n (λ k. get_or l k d) ≡ l
 tab-of n l d h =
     ext_get_or d (tab n (λ k. get_or l k d)) l (length-tab n (λ k. get_or l k d) ∙ sym h)
-    (λ i hi. getD-tab n (λ k. get_or l k d) i d (subst (λ (m : ℕ). i < m) (length-tab n (λ k. get_or l k d)) hi))
+    (λ i hi. get_or-tab n (λ k. get_or l k d) i d (subst (λ (m : ℕ). i < m) (length-tab n (λ k. get_or l k d)) hi))
 
 -- one place of such a list changed
 pub set-tab : {A : Type 0} (n : ℕ) (f g : ℕ → A) (i : ℕ) (a d : A) → i < n → g i ≡ a → ((j : ℕ) → (j ≡ i → ⊥) → g j ≡ f j) → set (tab n f) i a ≡ tab n g
@@ -204,7 +204,7 @@ set-tab n f g i a d h here other =
     ap (λ (k : ℕ). get_or (set (tab n f) i a) k d) e ∙ get_or-set_same (tab n f) i a d (subst (λ (m : ℕ). i < m) (sym (length-tab n f)) h)
     ∙ sym here
     ∙ ap g (sym e)
-    ∙ sym (getD-tab n g j d within))
+    ∙ sym (get_or-tab n g j d within))
     (λ (e : j ≡ i → ⊥).
-    get_or-set_other (tab n f) i j a d e ∙ getD-tab n f j d within ∙ sym (other j e) ∙ sym (getD-tab n g j d within))
+    get_or-set_other (tab n f) i j a d e ∙ get_or-tab n f j d within ∙ sym (other j e) ∙ sym (get_or-tab n g j d within))
     (same-or-other j i))

@@ -9,7 +9,7 @@ use native.Mathlib.Omega.{arith}
 use lib.Dec.{eqb, leb}
 use borrow.Author.Tests.{leb-true, le-leb, lt-leb, eqb-true, eqb-false, eq-eqb, ne_eqb}
 use Rattle.meaning.specs.Words.{sum, count}
-use Rattle.meaning.specs.Yard.{isProbe, reaches, climb, lagOn}
+use Rattle.meaning.specs.Yard.{is_probe, reaches, climb, lag_on}
 use Rattle.laws.proofs.Turns.{below-or-last, sum_same, sum-constant}
 
 -- a test that is one and the other is absurd
@@ -25,23 +25,23 @@ at-end {A} v top here on = go (eqb v top) refl
     go false e = on (eqb-false v top e)
 
 -- the probes are 2 to p + 1
-pub probe-yes : (p v : ℕ) → 2 ≤ v → v ≤ p + 1 → isProbe p v ≡ true
+pub probe-yes : (p v : ℕ) → 2 ≤ v → v ≤ p + 1 → is_probe p v ≡ true
 probe-yes p v low high = ap₂ ◌&&◌ (le-leb 2 v low) (le-leb v (p + 1) high)
 
-pub probe-below : (p v : ℕ) → v < 2 → isProbe p v ≡ false
+pub probe-below : (p v : ℕ) → v < 2 → is_probe p v ≡ false
 probe-below p v low = ap (λ (b : Bool). b && leb v (p + 1)) (lt-leb 2 v low)
 
-pub probe-past : (p v : ℕ) → p + 1 < v → isProbe p v ≡ false
+pub probe-past : (p v : ℕ) → p + 1 < v → is_probe p v ≡ false
 probe-past p v high = ap (λ (b : Bool). leb 2 v && b) (lt-leb v (p + 1) high) ∙ and-false (leb 2 v)
 
-pub probe-least : (p v : ℕ) → isProbe p v ≡ true → 2 ≤ v
+pub probe-least : (p v : ℕ) → is_probe p v ≡ true → 2 ≤ v
 probe-least p v e = go (leb 2 v) refl
   where
     go : (b : Bool) → leb 2 v ≡ b → 2 ≤ v
     go true q = leb-true 2 v q
     go false q = not-both e (ap (λ (b : Bool). b && leb v (p + 1)) q)
 
-pub probe-most : (p v : ℕ) → isProbe p v ≡ true → v ≤ p + 1
+pub probe-most : (p v : ℕ) → is_probe p v ≡ true → v ≤ p + 1
 probe-most p v e = go (leb v (p + 1)) refl
   where
     go : (b : Bool) → leb v (p + 1) ≡ b → v ≤ p + 1
@@ -49,7 +49,7 @@ probe-most p v e = go (leb v (p + 1)) refl
     go false q = not-both e (ap (λ (b : Bool). leb 2 v && b) q ∙ and-false (leb 2 v))
 
 -- the number of a probe, from 0
-pub probe-at : (p v : ℕ) → isProbe p v ≡ true → (v - 2 < p) × (v - 2 + 2 ≡ v)
+pub probe-at : (p v : ℕ) → is_probe p v ≡ true → (v - 2 < p) × (v - 2 + 2 ≡ v)
 probe-at p v e =
     let least = probe-least p v e in
     let most = probe-most p v e in
@@ -77,14 +77,14 @@ module _ (parent : ℕ → ℕ) where
   climb-on left v ne = rw (ne_eqb v 1 ne)
 
   -- the lag of a walk: at its end it is what it is; elsewhere a hop adds one, less the packets of the node that it comes to
-  pub lag-here : (packets : ℕ → ℕ) (top left lag v : ℕ) → v ≡ top → lagOn parent packets top left lag v ≡ lag
-  unfolding lagOn
+  pub lag-here : (packets : ℕ → ℕ) (top left lag v : ℕ) → v ≡ top → lag_on parent packets top left lag v ≡ lag
+  unfolding lag_on
   lag-here packets top zero lag v e = refl
   lag-here packets top (suc left) lag v e = rw (eq-eqb v top e)
 
   pub lag-on : (packets : ℕ → ℕ) (top left lag v : ℕ) → (v ≡ top → ⊥)
-      → lagOn parent packets top (suc left) lag v ≡ lagOn parent packets top left (lag + 1 - packets (parent v)) (parent v)
-  unfolding lagOn
+      → lag_on parent packets top (suc left) lag v ≡ lag_on parent packets top left (lag + 1 - packets (parent v)) (parent v)
+  unfolding lag_on
   lag-on packets top left lag v ne = rw (ne_eqb v top ne)
 
   -- with no hop left it has arrived only at its end
@@ -172,7 +172,7 @@ arrived parent p k = count (p + 1) (λ j. reaches parent 1 k (j + 1))
 abbrev Settled : (ℕ → ℕ) → ℕ → ℕ → Type 0
 Settled parent p k = (m u : ℕ) → 1 ≤ u → u ≤ p + 1 → reaches parent 1 m u ≡ true → reaches parent 1 k u ≡ true
 
-module _ (parent : ℕ → ℕ) (p : ℕ) (inside : (v : ℕ) → isProbe p v ≡ true → (1 ≤ parent v) × (parent v ≤ p + 1)) where
+module _ (parent : ℕ → ℕ) (p : ℕ) (inside : (v : ℕ) → is_probe p v ≡ true → (1 ≤ parent v) × (parent v ≤ p + 1)) where
   -- where one hop more brings no node, no number of hops does
   settles : (k : ℕ) → ((j : ℕ) → j < p + 1 → reaches parent 1 (suc k) (j + 1) ≡ reaches parent 1 k (j + 1)) → Settled parent p k
   settles k stop zero u low high r = reaches_here parent 1 k u (reaches-none parent 1 u r)
@@ -218,7 +218,7 @@ module _ (parent : ℕ → ℕ) (p : ℕ) (inside : (v : ℕ) → isProbe p v �
       (grows p)
 
   -- "Numbers returned", 6: a walk that has not arrived after p hops never does
-  pub never : (v : ℕ) → isProbe p v ≡ true → reaches parent 1 p v ≡ false → (k : ℕ) → reaches parent 1 k v ≡ false
+  pub never : (v : ℕ) → is_probe p v ≡ true → reaches parent 1 p v ≡ false → (k : ℕ) → reaches parent 1 k v ≡ false
   never v probe far k = go (reaches parent 1 k v) refl
     where
       go : (b : Bool) → reaches parent 1 k v ≡ b → reaches parent 1 k v ≡ false

@@ -2,5 +2,5 @@
 use Rattle.std.specs.Prelude.{ℕ, min}
 
 -- as many probes as a yard may have: a larger number counts as 63
-abbrev pub atMost63 : ℕ → ℕ
-atMost63 p = min p 63
+abbrev pub at_most63 : ℕ → ℕ
+at_most63 p = min p 63

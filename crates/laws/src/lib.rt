@@ -1,6 +1,6 @@
 // The laws of the definitions stand in proofs/. Here are the functions by which all code reads a list and a number of probes as the definitions do.
 ghost use Rattle.std.specs.Prelude.{◌≡◌, get_or};
-ghost use Rattle.laws.specs.Few.{atMost63};
+ghost use Rattle.laws.specs.Few.{at_most63};
 
 // What stands at a place of a list, 0 past its end.
 pub fn number_at(list: &[u8], at: usize) -> u8
@@ -11,7 +11,7 @@ pub fn number_at(list: &[u8], at: usize) -> u8
 
 // As many probes as a yard may have: then every probe has a place in a list by node.
 pub fn at_most_63(p: u8) -> u8
-    ensures { result ≡ atMost63 p }
+    ensures { result ≡ at_most63 p }
 {
     if p < 63 { p } else { 63 }
 }

@@ -13,8 +13,8 @@ use lib.ListN.{length, get_or, get_or-eq_default}
 use borrow.Author.Tests.{lt-ltb, le-ltb, eq-eqb, ne_eqb}
 use Rattle.meaning.specs.Words.{some}
 use Rattle.meaning.specs.Sheet.{parent_of}
-use Rattle.meaning.specs.Plan.{slotsOfPlan}
-use Rattle.meaning.specs.Book.{among, someSender, slotsWhere, sends, hears}
+use Rattle.meaning.specs.Plan.{slots_of_plan}
+use Rattle.meaning.specs.Book.{among, some_sender, slots_where, sends, hears}
 use Rattle.laws.proofs.Turns.{none-some}
 
 -- some number passes: the first, or one behind it
@@ -59,39 +59,39 @@ rises-one false first end l later rises i h = rises i h
 
 module _ (passes : List ℕ → Bool) where
   -- every number is that of one of the slots
-  pub where_below : (first : ℕ) (slots : List (List ℕ)) (i : ℕ) → i < length (slotsWhere passes first slots)
-      → (first ≤ get_or (slotsWhere passes first slots) i 0) × (get_or (slotsWhere passes first slots) i 0 < first + length slots)
-  unfolding slotsWhere
+  pub where_below : (first : ℕ) (slots : List (List ℕ)) (i : ℕ) → i < length (slots_where passes first slots)
+      → (first ≤ get_or (slots_where passes first slots) i 0) × (get_or (slots_where passes first slots) i 0 < first + length slots)
+  unfolding slots_where
   where_below first [] i h = absurd (not-suc-le-zero h)
   where_below first (slot ∷ slots) i h =
-      within-one (passes slot) first (first + suc (length slots)) (slotsWhere passes (first + 1) slots) (omega arith)
+      within-one (passes slot) first (first + suc (length slots)) (slots_where passes (first + 1) slots) (omega arith)
       (λ j l. let later = where_below (first + 1) slots j l in (later.0, omega (arith, later.1)))
       i h
 
-  rising : (first : ℕ) (slots : List (List ℕ)) → Rises (slotsWhere passes first slots)
-  unfolding slotsWhere
+  rising : (first : ℕ) (slots : List (List ℕ)) → Rises (slots_where passes first slots)
+  unfolding slots_where
   rising first [] i h = absurd (not-suc-le-zero h)
   rising first (slot ∷ slots) i h =
-      rises-one (passes slot) first (first + 1 + length slots) (slotsWhere passes (first + 1) slots) (where_below (first + 1) slots) (rising (first + 1) slots) i h
+      rises-one (passes slot) first (first + 1 + length slots) (slots_where passes (first + 1) slots) (where_below (first + 1) slots) (rising (first + 1) slots) i h
 
   -- the numbers rise
-  pub where-rising : (first : ℕ) (slots : List (List ℕ)) (i : ℕ) → i + 1 < length (slotsWhere passes first slots)
-      → get_or (slotsWhere passes first slots) i 0 < get_or (slotsWhere passes first slots) (i + 1) 0
+  pub where-rising : (first : ℕ) (slots : List (List ℕ)) (i : ℕ) → i + 1 < length (slots_where passes first slots)
+      → get_or (slots_where passes first slots) i 0 < get_or (slots_where passes first slots) (i + 1) 0
   where-rising first slots i h = rw (add-one i) (rising first slots i (omega arith))
 
   -- no number before the first
-  pub where-before : (first k : ℕ) (slots : List (List ℕ)) → k < first → among k (slotsWhere passes first slots) ≡ false
+  pub where-before : (first k : ℕ) (slots : List (List ℕ)) → k < first → among k (slots_where passes first slots) ≡ false
   where-before first k slots h =
-      let l : List ℕ = slotsWhere passes first slots in
+      let l : List ℕ = slots_where passes first slots in
       none-some (length l) (λ i. eqb (get_or l i 0) k) (λ i hi. ne_eqb (get_or l i 0) k (λ e. omega (arith, e, (where_below first slots i hi).0)))
 
   -- a number is among them exactly when the slot of that number is there and passes
   pub where-tells : (first k : ℕ) (slots : List (List ℕ))
-      → among (first + k) (slotsWhere passes first slots) ≡ cond (ltb k (length slots)) (passes (get_or slots k [])) false
-  unfolding slotsWhere some
+      → among (first + k) (slots_where passes first slots) ≡ cond (ltb k (length slots)) (passes (get_or slots k [])) false
+  unfolding slots_where some
   where-tells first k [] = ap (λ (b : Bool). cond b (passes []) false) (sym (le-ltb k 0 (omega arith)))
   where-tells first zero (slot ∷ slots) =
-      among_one (passes slot) (first + 0) first (slotsWhere passes (first + 1) slots)
+      among_one (passes slot) (first + 0) first (slots_where passes (first + 1) slots)
       ∙ ap₂ (λ (a b : Bool). passes slot && a || b) (eq-eqb first (first + 0) (omega arith)) (where-before (first + 1) (first + 0) slots (omega arith))
       ∙ only (passes slot)
       ∙ ap (λ (b : Bool). cond b (passes slot) false) (sym (lt-ltb 0 (suc (length slots)) (omega arith)))
@@ -101,9 +101,9 @@ module _ (passes : List ℕ → Bool) where
       only false = refl
   where-tells first (suc k) (slot ∷ slots) =
       let next : first + suc k ≡ first + 1 + k = omega arith in
-      among_one (passes slot) (first + suc k) first (slotsWhere passes (first + 1) slots)
+      among_one (passes slot) (first + suc k) first (slots_where passes (first + 1) slots)
       ∙ ap₂ (λ (a b : Bool). passes slot && a || b) (ne_eqb first (first + suc k) (λ e. omega arith))
-      (ap (λ (n : ℕ). among n (slotsWhere passes (first + 1) slots)) next ∙ where-tells (first + 1) k slots)
+      (ap (λ (n : ℕ). among n (slots_where passes (first + 1) slots)) next ∙ where-tells (first + 1) k slots)
       ∙ other (passes slot) (cond (ltb k (length slots)) (passes (get_or slots k [])) false)
       ∙ ap (λ (b : Bool). cond b (passes (get_or slots k [])) false) (same (dec_lt k (length slots)))
     where
@@ -116,7 +116,7 @@ module _ (passes : List ℕ → Bool) where
       same (no l) = le-ltb k (length slots) (omega arith) ∙ sym (le-ltb (suc k) (suc (length slots)) (omega arith))
 
   -- where no slot without a sender passes, also behind the last slot
-  where-told : (first k : ℕ) (slots : List (List ℕ)) → passes [] ≡ false → among (first + k) (slotsWhere passes first slots) ≡ passes (get_or slots k [])
+  where-told : (first k : ℕ) (slots : List (List ℕ)) → passes [] ≡ false → among (first + k) (slots_where passes first slots) ≡ passes (get_or slots k [])
   where-told first k slots none = where-tells first k slots ∙ go (dec_lt k (length slots))
     where
       go : Dec (k < length slots) → cond (ltb k (length slots)) (passes (get_or slots k [])) false ≡ passes (get_or slots k [])
@@ -128,22 +128,22 @@ module _ (passes : List ℕ → Bool) where
           ∙ ap passes (sym (get_or-eq_default slots [] past))
 
 -- slot k + 1 is among those in which v sends exactly when v is a sender of that slot; where the plan has no such slot, neither
-pub sends-tell : (plan : List ℕ) (v k : ℕ) → among (k + 1) (sends plan v) ≡ among v (get_or (slotsOfPlan plan) k [])
+pub sends-tell : (plan : List ℕ) (v k : ℕ) → among (k + 1) (sends plan v) ≡ among v (get_or (slots_of_plan plan) k [])
 unfolding some
 sends-tell plan v k =
     let at : k + 1 ≡ 1 + k = omega arith in
-    ap (λ (n : ℕ). among n (sends plan v)) at ∙ where-told (someSender (λ u. eqb u v)) 1 k (slotsOfPlan plan) refl
+    ap (λ (n : ℕ). among n (sends plan v)) at ∙ where-told (some_sender (λ u. eqb u v)) 1 k (slots_of_plan plan) refl
 
 -- and among those in which it hears exactly when a child of v is
-pub hears-tell : (s plan : List ℕ) (v k : ℕ) → among (k + 1) (hears s plan v) ≡ someSender (λ u. eqb (parent_of s u) v) (get_or (slotsOfPlan plan) k [])
+pub hears-tell : (s plan : List ℕ) (v k : ℕ) → among (k + 1) (hears s plan v) ≡ some_sender (λ u. eqb (parent_of s u) v) (get_or (slots_of_plan plan) k [])
 unfolding some
 hears-tell s plan v k =
     let at : k + 1 ≡ 1 + k = omega arith in
-    ap (λ (n : ℕ). among n (hears s plan v)) at ∙ where-told (someSender (λ u. eqb (parent_of s u) v)) 1 k (slotsOfPlan plan) refl
+    ap (λ (n : ℕ). among n (hears s plan v)) at ∙ where-told (some_sender (λ u. eqb (parent_of s u) v)) 1 k (slots_of_plan plan) refl
 
 -- slots count from 1
 pub no-slot-0 : (s plan : List ℕ) (v : ℕ) → (among 0 (sends plan v) ≡ false) × (among 0 (hears s plan v) ≡ false)
 no-slot-0 s plan v = (
-  where-before (someSender (λ u. eqb u v)) 1 0 (slotsOfPlan plan) (omega arith),
-  where-before (someSender (λ u. eqb (parent_of s u) v)) 1 0 (slotsOfPlan plan) (omega arith),
+  where-before (some_sender (λ u. eqb u v)) 1 0 (slots_of_plan plan) (omega arith),
+  where-before (some_sender (λ u. eqb (parent_of s u) v)) 1 0 (slots_of_plan plan) (omega arith),
 )

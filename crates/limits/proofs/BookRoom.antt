@@ -14,15 +14,15 @@ use Rattle.meaning.specs.declared.Mode.TheVariants.{Packets}
 use Rattle.meaning.specs.declared.Outcome.{Outcome}
 use Rattle.meaning.specs.declared.Verdict.{Verdict}
 use Rattle.meaning.specs.declared.Judgement.{Judgement}
-use Rattle.meaning.specs.Words.{sum, sumProbes, in_turn}
-use Rattle.meaning.specs.Yard.{isProbe, branchPackets}
-use Rattle.meaning.specs.Sheet.{twoAt, probeCount, parent_of, packetsOf, levelOf, hops, allPackets}
-use Rattle.meaning.specs.Conflict.{entry, conflictTable}
+use Rattle.meaning.specs.Words.{sum, sum_probes, in_turn}
+use Rattle.meaning.specs.Yard.{is_probe, branch_packets}
+use Rattle.meaning.specs.Sheet.{two_at, probe_count, parent_of, packets_of, level_of, hops, all_packets}
+use Rattle.meaning.specs.Conflict.{entry, conflict_table}
 use Rattle.meaning.specs.Rounds.{outside}
-use Rattle.meaning.specs.Legal.{heldFirst}
-use Rattle.meaning.specs.Answer.{accepted, isAccepted, given, ◌then◌}
-use Rattle.meaning.specs.Judge.{slotsDone, planJudgedBy, planJudged, judgeIn, judge, judgement}
-use Rattle.meaning.specs.Book.{sends, hears, twoEach, counted, wakeBook, anyBook, BookMade, bookMade}
+use Rattle.meaning.specs.Legal.{held_first}
+use Rattle.meaning.specs.Answer.{accepted, is_accepted, given, ◌then◌}
+use Rattle.meaning.specs.Judge.{slots_done, plan_judged_by, plan_judged, judge_in, judge, judgement}
+use Rattle.meaning.specs.Book.{sends, hears, two_each, counted, wake_book, any_book, BookMade, book_made}
 use Rattle.laws.proofs.Turns.{sum_same, sum-least, sum-constant}
 use Rattle.laws.proofs.Walk.{probe-yes}
 use Rattle.laws.proofs.Slots.{true-or-false}
@@ -43,8 +43,8 @@ unfolding in_turn sum
 turns-length zero f = refl
 turns-length (suc n) f = omega (arith, length-append (in_turn n f) (f n), turns-length n f)
 
-pub two-each-length : (l : List ℕ) → length (twoEach l) ≡ 2 * length l
-unfolding twoEach
+pub two-each-length : (l : List ℕ) → length (two_each l) ≡ 2 * length l
+unfolding two_each
 two-each-length [] = refl
 two-each-length (x ∷ l) = omega (arith, two-each-length l)
 
@@ -53,11 +53,11 @@ counted-length l = omega (arith, two-each-length (length l ∷ l))
 
 module _ (s plan : List ℕ) where
   -- of any plan: four bytes of each probe, and two for each slot in which it wakes
-  wake-book-length : length (wakeBook s plan) ≡ sumProbes (probeCount s) (λ v. 4 + 2 * length (sends plan v) + 2 * length (hears s plan v))
-  unfolding wakeBook
+  wake-book-length : length (wake_book s plan) ≡ sum_probes (probe_count s) (λ v. 4 + 2 * length (sends plan v) + 2 * length (hears s plan v))
+  unfolding wake_book
   wake-book-length =
-      turns-length (probeCount s) (λ k. counted (sends plan (k + 2)) ++ counted (hears s plan (k + 2)))
-      ∙ sum_same (probeCount s) (λ k. length (counted (sends plan (k + 2)) ++ counted (hears s plan (k + 2))))
+      turns-length (probe_count s) (λ k. counted (sends plan (k + 2)) ++ counted (hears s plan (k + 2)))
+      ∙ sum_same (probe_count s) (λ k. length (counted (sends plan (k + 2)) ++ counted (hears s plan (k + 2))))
       (λ k. 4 + 2 * length (sends plan (k + 2)) + 2 * length (hears s plan (k + 2)))
       (λ k _.
       omega (
@@ -74,32 +74,32 @@ one-most g l few deep =
     let whole : g + rest ≡ 15 = omega arith in
     omega (arith, add-mul g rest l, ap (λ (n : ℕ). n * l) whole, mul-le-mul (le_refl rest) deep, mul-one rest)
 
-module _ (s plan : List ℕ) (h : isAccepted (judge s plan).outcome ≡ true) where
+module _ (s plan : List ℕ) (h : is_accepted (judge s plan).outcome ≡ true) where
   -- the length is told by the sheet alone
-  pub book-long : length (wakeBook s plan) + 2 * allPackets s ≡ 4 * probeCount s + 4 * hops s
+  pub book-long : length (wake_book s plan) + 2 * all_packets s ≡ 4 * probe_count s + 4 * hops s
   book-long = omega (arith, wake-book-length s plan, book-length s plan h)
 
-  hops-and-packets : 4 * hops s + 30 * probeCount s ≤ 2 * allPackets s + 60 * sumProbes (probeCount s) (levelOf s)
-  unfolding hops allPackets
+  hops-and-packets : 4 * hops s + 30 * probe_count s ≤ 2 * all_packets s + 60 * sum_probes (probe_count s) (level_of s)
+  unfolding hops all_packets
   hops-and-packets =
       let ok = (passed-ran s plan h).sheet in
-      let p : ℕ = probeCount s in
+      let p : ℕ = probe_count s in
       omega (
         arith,
-        sum-least p (λ k. 4 * (packetsOf s (k + 2) * levelOf s (k + 2)) + 30) (λ k. 2 * packetsOf s (k + 2) + 60 * levelOf s (k + 2))
+        sum-least p (λ k. 4 * (packets_of s (k + 2) * level_of s (k + 2)) + 30) (λ k. 2 * packets_of s (k + 2) + 60 * level_of s (k + 2))
             (λ k hk.
             let probe = probe-yes p (k + 2) (omega arith) (omega arith) in
-            one-most (packetsOf s (k + 2)) (levelOf s (k + 2)) ((accepted-yard s ok).probe (k + 2) probe).packets-most (level-least s ok (k + 2) probe)),
-        sum-add p (λ k. 4 * (packetsOf s (k + 2) * levelOf s (k + 2))) (λ _. 30),
-        sum-times p 4 (λ k. packetsOf s (k + 2) * levelOf s (k + 2)),
+            one-most (packets_of s (k + 2)) (level_of s (k + 2)) ((accepted-yard s ok).probe (k + 2) probe).packets_most (level-least s ok (k + 2) probe)),
+        sum-add p (λ k. 4 * (packets_of s (k + 2) * level_of s (k + 2))) (λ _. 30),
+        sum-times p 4 (λ k. packets_of s (k + 2) * level_of s (k + 2)),
         sum-constant p 30,
-        sum-add p (λ k. 2 * packetsOf s (k + 2)) (λ k. 60 * levelOf s (k + 2)),
-        sum-times p 2 (λ k. packetsOf s (k + 2)),
-        sum-times p 60 (λ k. levelOf s (k + 2)),
+        sum-add p (λ k. 2 * packets_of s (k + 2)) (λ k. 60 * level_of s (k + 2)),
+        sum-times p 2 (λ k. packets_of s (k + 2)),
+        sum-times p 60 (λ k. level_of s (k + 2)),
       )
 
   -- room for any book
-  pub book-most : length (wakeBook s plan) ≤ anyBook
+  pub book-most : length (wake_book s plan) ≤ any_book
   book-most =
       let ok = (passed-ran s plan h).sheet in
       let few = few-probes s ok in
@@ -108,22 +108,22 @@ module _ (s plan : List ℕ) (h : isAccepted (judge s plan).outcome ≡ true) wh
         book-long,
         hops-and-packets,
         levels-most s ok,
-        mul-add (probeCount s) (probeCount s) 1,
-        mul-one (probeCount s),
+        mul-add (probe_count s) (probe_count s) 1,
+        mul-one (probe_count s),
         mul-le-mul few few,
         few,
       )
 
   -- a probe hears what its branch sends but its own packets
-  pub hears-rest : (v : ℕ) → isProbe (probeCount s) v ≡ true
-      → length (hears s plan v) + packetsOf s v ≡ branchPackets (probeCount s) (parent_of s) (packetsOf s) v
+  pub hears-rest : (v : ℕ) → is_probe (probe_count s) v ≡ true
+      → length (hears s plan v) + packets_of s v ≡ branch_packets (probe_count s) (parent_of s) (packets_of s) v
   hears-rest v hv =
       let ok = (passed-ran s plan h).sheet in
-      omega (arith, hears-length s plan h v, branch-own (probeCount s) (parent_of s) (Yard.rooted s ok) (packetsOf s) v hv)
+      omega (arith, hears-length s plan h v, branch-own (probe_count s) (parent_of s) (Yard.rooted s ok) (packets_of s) v hv)
 
   -- a passed plan's outcome is 0 with place 0
   pub passed-whole : (judge s plan).outcome ≡ accepted
-  unfolding judgeIn planJudged planJudgedBy
+  unfolding judge_in plan_judged plan_judged_by
   passed-whole =
       let sheet = then-accepted _ _ h in
       let long = then-accepted _ _ sheet.1 in
@@ -133,40 +133,40 @@ module _ (s plan : List ℕ) (h : isAccepted (judge s plan).outcome ≡ true) wh
       ∙ then-goes _ _ long.0
       ∙ then-goes _ _ slots.0
       ∙ then-goes _ _ left.0
-      ∙ gives_none 17 (twoAt plan 0) left_out (given-accepted 17 (twoAt plan 0) left_out refl left.1)
+      ∙ gives_none 17 (two_at plan 0) left_out (given-accepted 17 (two_at plan 0) left_out refl left.1)
     where
       left_out : Bool
-      left_out = outside (probeCount s) (slotsDone Packets (probeCount s) (parent_of s) (entry (conflictTable s)) (heldFirst s) plan).held
+      left_out = outside (probe_count s) (slots_done Packets (probe_count s) (parent_of s) (entry (conflict_table s)) (held_first s) plan).held
 
 -- what is made, by whether it is made
-abbrev pub madeBy : Judgement → List ℕ → Outcome → Bool → BookMade
-madeBy judged book outcome true = record { answer = record { outcome = outcome; names = judged.names; bytes = length book }; written = book }
-madeBy judged book outcome false = record { answer = record { outcome = outcome; names = judged.names; bytes = 0 }; written = [] }
+abbrev pub made_by : Judgement → List ℕ → Outcome → Bool → BookMade
+made_by judged book outcome true = record { answer = record { outcome = outcome; names = judged.names; bytes = length book }; written = book }
+made_by judged book outcome false = record { answer = record { outcome = outcome; names = judged.names; bytes = 0 }; written = [] }
 
 module _ (s plan : List ℕ) (room : ℕ) where
   -- the judge's number first, then 22
-  abbrev pub bookOutcome : Outcome
-  bookOutcome = (judgement s plan).verdict.outcome then given 22 0 (ltb room (length (wakeBook s plan)))
+  abbrev pub book_outcome : Outcome
+  book_outcome = (judgement s plan).verdict.outcome then given 22 0 (ltb room (length (wake_book s plan)))
 
-  pub book-by : (b : Bool) → isAccepted bookOutcome ≡ b → bookMade s plan room ≡ madeBy (judgement s plan) (wakeBook s plan) bookOutcome b
-  unfolding bookMade
+  pub book-by : (b : Bool) → is_accepted book_outcome ≡ b → book_made s plan room ≡ made_by (judgement s plan) (wake_book s plan) book_outcome b
+  unfolding book_made
   book-by true e = rw e
   book-by false e = rw e
 
-  made-outcome : (b : Bool) → (madeBy (judgement s plan) (wakeBook s plan) bookOutcome b).answer.outcome ≡ bookOutcome
+  made-outcome : (b : Bool) → (made_by (judgement s plan) (wake_book s plan) book_outcome b).answer.outcome ≡ book_outcome
   made-outcome true = refl
   made-outcome false = refl
 
   -- where there is room for any book the judge's number is the answer, and 22 is never given
-  pub room-for-any : anyBook ≤ room → (bookMade s plan room).answer.outcome ≡ (judgement s plan).verdict.outcome
+  pub room-for-any : any_book ≤ room → (book_made s plan room).answer.outcome ≡ (judgement s plan).verdict.outcome
   room-for-any enough =
-      ap (λ (made : BookMade). made.answer.outcome) (book-by (isAccepted bookOutcome) refl)
-      ∙ made-outcome (isAccepted bookOutcome)
+      ap (λ (made : BookMade). made.answer.outcome) (book-by (is_accepted book_outcome) refl)
+      ∙ made-outcome (is_accepted book_outcome)
       ∙ ⊎_elim
-      (λ (h : isAccepted (judgement s plan).verdict.outcome ≡ true).
-      let passed : isAccepted (judge s plan).outcome ≡ true = ap (λ (v : Verdict). isAccepted v.outcome) (sym (without-names Packets s plan)) ∙ h in
+      (λ (h : is_accepted (judgement s plan).verdict.outcome ≡ true).
+      let passed : is_accepted (judge s plan).outcome ≡ true = ap (λ (v : Verdict). is_accepted v.outcome) (sym (without-names Packets s plan)) ∙ h in
       then-goes (judgement s plan).verdict.outcome _ h
-      ∙ gives_none 22 0 _ (le-ltb room (length (wakeBook s plan)) (omega (arith, enough, book-most s plan passed)))
+      ∙ gives_none 22 0 _ (le-ltb room (length (wake_book s plan)) (omega (arith, enough, book-most s plan passed)))
       ∙ sym (ap (λ (v : Verdict). v.outcome) (without-names Packets s plan) ∙ passed-whole s plan passed))
-      (λ (h : isAccepted (judgement s plan).verdict.outcome ≡ false). then-stays (judgement s plan).verdict.outcome _ h)
-      (true-or-false (isAccepted (judgement s plan).verdict.outcome))
+      (λ (h : is_accepted (judgement s plan).verdict.outcome ≡ false). then-stays (judgement s plan).verdict.outcome _ h)
+      (true-or-false (is_accepted (judgement s plan).verdict.outcome))

@@ -8,8 +8,8 @@ use native.Mathlib.Nat.{not-suc-le-zero}
 use native.Mathlib.Omega.{arith}
 use lib.Dec.{eqb}
 use borrow.Author.Tests.{eq-eqb, ne_eqb, eqb-true}
-use Rattle.meaning.specs.Words.{sum, sumProbes}
-use Rattle.meaning.specs.Yard.{isProbe, reaches, climb, branchPackets}
+use Rattle.meaning.specs.Words.{sum, sum_probes}
+use Rattle.meaning.specs.Yard.{is_probe, reaches, climb, branch_packets}
 use Rattle.laws.proofs.Turns.{sum_same, same-or-other}
 use Rattle.laws.proofs.Walk.{not-both, probe-yes, probe-least, reaches_here, reaches-on, reaches-none, climb-up, climb-most}
 use Rattle.laws.proofs.Slots.{true-or-false}
@@ -19,8 +19,8 @@ use Rattle.limits.proofs.Sending.{inflow-same}
 
 -- a yard: every probe has a parent among the nodes and arrives at the gateway, from which no walk goes on
 pub record Rooted (p : ℕ) (parent : ℕ → ℕ) : Type 0 where
-  pub inside : (v : ℕ) → isProbe p v ≡ true → (1 ≤ parent v) × (parent v ≤ p + 1)
-  pub arrives : (v : ℕ) → isProbe p v ≡ true → reaches parent 1 p v ≡ true
+  pub inside : (v : ℕ) → is_probe p v ≡ true → (1 ≤ parent v) × (parent v ≤ p + 1)
+  pub arrives : (v : ℕ) → is_probe p v ≡ true → reaches parent 1 p v ≡ true
   pub gateway : parent 1 ≡ 0
   pub nowhere : parent 0 ≡ 0
 
@@ -68,14 +68,14 @@ module _ (p : ℕ) (parent : ℕ → ℕ) (rooted : Rooted p parent) where
   below top v = reaches parent top p v
 
   -- a probe is the top of a branch, or its parent is in it
-  below_on : (top v : ℕ) → 1 ≤ top → isProbe p v ≡ true → below top v ≡ (eqb v top || below top (parent v))
+  below_on : (top v : ℕ) → 1 ≤ top → is_probe p v ≡ true → below top v ≡ (eqb v top || below top (parent v))
   unfolding reaches
   below_on top v ht h = sym (reaches_same top p (suc p) v ht (omega arith) (rooted.arrives v h))
 
   abbrev level : ℕ → ℕ
   level v = climb parent p v
 
-  pub level-up : (v : ℕ) → isProbe p v ≡ true → level v ≡ suc (level (parent v))
+  pub level-up : (v : ℕ) → is_probe p v ≡ true → level v ≡ suc (level (parent v))
   level-up v h = let least = probe-least p v h in (climb-up parent p v (rooted.arrives v h) (λ e. omega arith)).0
 
   -- on a walk levels fall
@@ -93,7 +93,7 @@ module _ (p : ℕ) (parent : ℕ → ℕ) (rooted : Rooted p parent) where
       (same-or-other v top)
 
   -- what lies one level further out is not reached
-  not-below : (c v : ℕ) → isProbe p c ≡ true → 1 ≤ v → v ≤ p + 1 → parent c ≡ v → below c v ≡ false
+  not-below : (c v : ℕ) → is_probe p c ≡ true → 1 ≤ v → v ≤ p + 1 → parent c ≡ v → below c v ≡ false
   not-below c v hc from to e =
       ⊎_elim
       (λ (r : below c v ≡ true).
@@ -104,20 +104,20 @@ module _ (p : ℕ) (parent : ℕ → ℕ) (rooted : Rooted p parent) where
   module _ (x top : ℕ) (ht : 1 ≤ top) where
     -- x for each child of top in whose branch v is
     through : ℕ → ℕ
-    through v = sumProbes p (λ c. cond (eqb (parent c) top) (cond (below c v) x 0) 0)
+    through v = sum_probes p (λ c. cond (eqb (parent c) top) (cond (below c v) x 0) 0)
 
-    none-through : (v : ℕ) → ((c : ℕ) → isProbe p c ≡ true → parent c ≡ top → below c v ≡ false) → through v ≡ 0
+    none-through : (v : ℕ) → ((c : ℕ) → is_probe p c ≡ true → parent c ≡ top → below c v ≡ false) → through v ≡ 0
     unfolding through
     none-through v none =
         sum-zero p (λ k. cond (eqb (parent (k + 2)) top) (cond (below (k + 2) v) x 0) 0)
         (λ k hk. go (k + 2) (probe-yes p (k + 2) (omega arith) (omega arith)) (eqb (parent (k + 2)) top) refl)
       where
-        go : (c : ℕ) → isProbe p c ≡ true → (b : Bool) → eqb (parent c) top ≡ b → cond b (cond (below c v) x 0) 0 ≡ 0
+        go : (c : ℕ) → is_probe p c ≡ true → (b : Bool) → eqb (parent c) top ≡ b → cond b (cond (below c v) x 0) 0 ≡ 0
         go c hc false e = refl
         go c hc true e = ap (λ (t : Bool). cond t x 0) (none c hc (eqb-true (parent c) top e))
 
     -- one hop up: v itself is a child of top, or its parent is in the same branches
-    through-on : (v : ℕ) → isProbe p v ≡ true → through v ≡ cond (eqb (parent v) top) x 0 + through (parent v)
+    through-on : (v : ℕ) → is_probe p v ≡ true → through v ≡ cond (eqb (parent v) top) x 0 + through (parent v)
     unfolding through
     through-on v hv =
         sum_same p (λ k. cond (eqb (parent (k + 2)) top) (cond (below (k + 2) v) x 0) 0)
@@ -126,10 +126,10 @@ module _ (p : ℕ) (parent : ℕ → ℕ) (rooted : Rooted p parent) where
         let c : ℕ = k + 2 in
         split (eqb (parent c) top) (below c v) (eqb v c) (below c (parent v)) (below_on c v (omega arith) hv)
         (λ e. let same = eqb-true v c e in
-        not-below c (parent v) (subst (λ (u : ℕ). isProbe p u ≡ true) same hv) (rooted.inside v hv).0 (rooted.inside v hv).1 (ap parent (sym same))))
+        not-below c (parent v) (subst (λ (u : ℕ). is_probe p u ≡ true) same hv) (rooted.inside v hv).0 (rooted.inside v hv).1 (ap parent (sym same))))
         ∙ sum-add p (λ k. cond (eqb (parent (k + 2)) top) (cond (eqb v (k + 2)) x 0) 0)
         (λ k. cond (eqb (parent (k + 2)) top) (cond (below (k + 2) (parent v)) x 0) 0)
-        ∙ ap (λ (n : ℕ). n + sumProbes p (λ c. cond (eqb (parent c) top) (cond (below c (parent v)) x 0) 0)) itself
+        ∙ ap (λ (n : ℕ). n + sum_probes p (λ c. cond (eqb (parent c) top) (cond (below c (parent v)) x 0) 0)) itself
       where
         split : (a b c d : Bool) → b ≡ (c || d) → (c ≡ true → d ≡ false) → cond a (cond b x 0) 0 ≡ cond a (cond c x 0) 0 + cond a (cond d x 0) 0
         split false b c d e one = refl
@@ -137,7 +137,7 @@ module _ (p : ℕ) (parent : ℕ → ℕ) (rooted : Rooted p parent) where
             omega (arith, ap (λ (t : Bool). cond t x 0) e, ap (λ (t : Bool). cond t x 0) (one refl))
         split true b false d e one = omega (arith, ap (λ (t : Bool). cond t x 0) e)
 
-        itself : sumProbes p (λ c. cond (eqb (parent c) top) (cond (eqb v c) x 0) 0) ≡ cond (eqb (parent v) top) x 0
+        itself : sum_probes p (λ c. cond (eqb (parent c) top) (cond (eqb v c) x 0) 0) ≡ cond (eqb (parent v) top) x 0
         itself =
             probes-only p (λ c. cond (eqb (parent c) top) (cond (eqb v c) x 0) 0) v hv
             (λ u other. ap (λ (t : Bool). cond (eqb (parent u) top) (cond t x 0) 0) (ne_eqb v u (λ e. other (sym e))) ∙ zero-either (eqb (parent u) top))
@@ -181,7 +181,7 @@ module _ (p : ℕ) (parent : ℕ → ℕ) (rooted : Rooted p parent) where
 
   -- the packets of a branch, of any kind of packets: its top's own, and those of the branches of its children
   pub branch-parts : (packets : ℕ → ℕ) (top : ℕ) → 1 ≤ top
-      → branchPackets p parent packets top ≡ sumProbes p (λ v. cond (eqb v top) (packets v) 0) + inflow p parent (branchPackets p parent packets) top
+      → branch_packets p parent packets top ≡ sum_probes p (λ v. cond (eqb v top) (packets v) 0) + inflow p parent (branch_packets p parent packets) top
   unfolding through inflow
   branch-parts packets top ht =
       sum_same p (λ k. cond (below top (k + 2)) (packets (k + 2)) 0)
@@ -190,44 +190,44 @@ module _ (p : ℕ) (parent : ℕ → ℕ) (rooted : Rooted p parent) where
       let probe = probe-yes p (k + 2) (omega arith) (omega arith) in
       omega (arith, parts (packets (k + 2)) top ht p (k + 2) (omega arith) (omega arith) (rooted.arrives (k + 2) probe)))
       ∙ sum-add p (λ k. cond (eqb (k + 2) top) (packets (k + 2)) 0) (λ k. sum p (each (k + 2)))
-      ∙ ap (λ (n : ℕ). sumProbes p (λ v. cond (eqb v top) (packets v) 0) + n)
+      ∙ ap (λ (n : ℕ). sum_probes p (λ v. cond (eqb v top) (packets v) 0) + n)
       (sum-swap p p (λ i. each (i + 2))
-      ∙ sum_same p (λ j. sum p (λ i. each (i + 2) j)) (λ j. cond (eqb (parent (j + 2)) top) (branchPackets p parent packets (j + 2)) 0)
+      ∙ sum_same p (λ j. sum p (λ i. each (i + 2) j)) (λ j. cond (eqb (parent (j + 2)) top) (branch_packets p parent packets (j + 2)) 0)
       (λ j _. sum-cond p (eqb (parent (j + 2)) top) (λ i. cond (below (j + 2) (i + 2)) (packets (i + 2)) 0)))
     where
       each : ℕ → ℕ → ℕ
       each v j = cond (eqb (parent (j + 2)) top) (cond (below (j + 2) v) (packets v) 0) 0
 
-  pub branch-own : (packets : ℕ → ℕ) (top : ℕ) → isProbe p top ≡ true
-      → branchPackets p parent packets top ≡ packets top + inflow p parent (branchPackets p parent packets) top
+  pub branch-own : (packets : ℕ → ℕ) (top : ℕ) → is_probe p top ≡ true
+      → branch_packets p parent packets top ≡ packets top + inflow p parent (branch_packets p parent packets) top
   branch-own packets top h =
       let least = probe-least p top h in
       omega (arith, together-itself p packets top h, branch-parts packets top (omega arith))
 
   -- what is everywhere one's own and what the children have is the packets of the branches: by levels, from the deepest up
-  module _ (packets many : ℕ → ℕ) (parts : (v : ℕ) → isProbe p v ≡ true → many v ≡ packets v + inflow p parent many v) where
-    from-deepest : (n v : ℕ) → isProbe p v ≡ true → p < level v + n → many v ≡ branchPackets p parent packets v
+  module _ (packets many : ℕ → ℕ) (parts : (v : ℕ) → is_probe p v ≡ true → many v ≡ packets v + inflow p parent many v) where
+    from-deepest : (n v : ℕ) → is_probe p v ≡ true → p < level v + n → many v ≡ branch_packets p parent packets v
     from-deepest zero v h deep = absurd (omega (arith, climb-most parent p v))
     from-deepest (suc n) v h deep =
         omega (
           arith,
           parts v h,
           branch-own packets v h,
-          inflow-same p parent many (branchPackets p parent packets) v
+          inflow-same p parent many (branch_packets p parent packets) v
               (λ k hk e.
               let probe = probe-yes p (k + 2) (omega arith) (omega arith) in
               from-deepest n (k + 2) probe (omega (arith, level-up (k + 2) probe, ap level (eqb-true (parent (k + 2)) v e)))),
         )
 
-    pub only-branch : (v : ℕ) → isProbe p v ≡ true → many v ≡ branchPackets p parent packets v
+    pub only-branch : (v : ℕ) → is_probe p v ≡ true → many v ≡ branch_packets p parent packets v
     only-branch v h = from-deepest (suc p) v h (omega arith)
 
   -- all packets, by the branches whose tops are next to the gateway
-  pub branch-all : (packets : ℕ → ℕ) → sumProbes p packets ≡ inflow p parent (branchPackets p parent packets) 1
+  pub branch-all : (packets : ℕ → ℕ) → sum_probes p packets ≡ inflow p parent (branch_packets p parent packets) 1
   branch-all packets =
-      let none : sumProbes p (λ v. cond (eqb v 1) (packets v) 0) ≡ 0 =
+      let none : sum_probes p (λ v. cond (eqb v 1) (packets v) 0) ≡ 0 =
       sum-zero p (λ k. cond (eqb (k + 2) 1) (packets (k + 2)) 0) (λ k hk. ap (λ (b : Bool). cond b (packets (k + 2)) 0) (ne_eqb (k + 2) 1 (λ e. omega arith))) in
-      let whole : branchPackets p parent packets 1 ≡ sumProbes p packets =
+      let whole : branch_packets p parent packets 1 ≡ sum_probes p packets =
       sum_same p (λ k. cond (below 1 (k + 2)) (packets (k + 2)) 0) (λ k. packets (k + 2))
       (λ k hk. ap (λ (b : Bool). cond b (packets (k + 2)) 0) (rooted.arrives (k + 2) (probe-yes p (k + 2) (omega arith) (omega arith)))) in
       omega (arith, none, whole, branch-parts packets 1 (omega arith))

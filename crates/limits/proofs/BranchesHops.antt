@@ -8,10 +8,10 @@ use native.Mathlib.Nat.{mul-zero}
 use native.Mathlib.Omega.{arith}
 use lib.Dec.{eqb}
 use borrow.Author.Tests.{eqb-true}
-use Rattle.meaning.specs.Words.{sumProbes}
-use Rattle.meaning.specs.Yard.{isProbe, branchPackets, climb}
-use Rattle.meaning.specs.Sheet.{probeCount, parent_of, packetsOf, levelOf, hops, allPackets}
-use Rattle.meaning.specs.Answer.{isAccepted, sheetTest}
+use Rattle.meaning.specs.Words.{sum_probes}
+use Rattle.meaning.specs.Yard.{is_probe, branch_packets, climb}
+use Rattle.meaning.specs.Sheet.{probe_count, parent_of, packets_of, level_of, hops, all_packets}
+use Rattle.meaning.specs.Answer.{is_accepted, sheet_test}
 use Rattle.laws.proofs.Turns.{sum_same}
 use Rattle.laws.proofs.Walk.{probe-yes, probe-below}
 use Rattle.laws.proofs.Grounds.{level-up}
@@ -32,57 +32,57 @@ inflow-times p parent w many v =
     go true n = refl
     go false n = sym (mul-zero w)
 
-module _ (s : List ℕ) (ok : isAccepted (sheetTest s) ≡ true) where
+module _ (s : List ℕ) (ok : is_accepted (sheet_test s) ≡ true) where
   abbrev branch : ℕ → ℕ
-  branch = branchPackets (probeCount s) (parent_of s) (packetsOf s)
+  branch = branch_packets (probe_count s) (parent_of s) (packets_of s)
 
   abbrev flow : (ℕ → ℕ) → ℕ → ℕ
-  flow = inflow (probeCount s) (parent_of s)
+  flow = inflow (probe_count s) (parent_of s)
 
   -- a branch times the level of its top's parent
   abbrev up : ℕ → ℕ
-  up c = levelOf s (parent_of s c) * branch c
+  up c = level_of s (parent_of s c) * branch c
 
-  flow-up : (v : ℕ) → flow up v ≡ levelOf s v * flow branch v
+  flow-up : (v : ℕ) → flow up v ≡ level_of s v * flow branch v
   flow-up v =
-      inflow-same (probeCount s) (parent_of s) up (λ c. levelOf s v * branch c) v
-      (λ k _ e. ap (λ (u : ℕ). levelOf s u * branch (k + 2)) (eqb-true (parent_of s (k + 2)) v e))
-      ∙ inflow-times (probeCount s) (parent_of s) (levelOf s v) branch v
+      inflow-same (probe_count s) (parent_of s) up (λ c. level_of s v * branch c) v
+      (λ k _ e. ap (λ (u : ℕ). level_of s u * branch (k + 2)) (eqb-true (parent_of s (k + 2)) v e))
+      ∙ inflow-times (probe_count s) (parent_of s) (level_of s v) branch v
 
-  gateway-level : levelOf s 1 ≡ 0
-  unfolding levelOf
-  gateway-level = ap (λ (b : Bool). cond b (climb (parent_of s) (probeCount s) 1) 0) (probe-below (probeCount s) 1 (omega arith))
+  gateway-level : level_of s 1 ≡ 0
+  unfolding level_of
+  gateway-level = ap (λ (b : Bool). cond b (climb (parent_of s) (probe_count s) 1) 0) (probe-below (probe_count s) 1 (omega arith))
 
   -- the balance of one probe
-  balance : (v : ℕ) → isProbe (probeCount s) v ≡ true → branch v + up v ≡ packetsOf s v * levelOf s v + flow up v
+  balance : (v : ℕ) → is_probe (probe_count s) v ≡ true → branch v + up v ≡ packets_of s v * level_of s v + flow up v
   balance v h =
-      let own : levelOf s v * branch v ≡ levelOf s v * (packetsOf s v + flow branch v) =
-      ap (λ (n : ℕ). levelOf s v * n) (branch-own (probeCount s) (parent_of s) (Yard.rooted s ok) (packetsOf s) v h) in
-      let step : levelOf s v * branch v ≡ suc (levelOf s (parent_of s v)) * branch v = ap (λ (n : ℕ). n * branch v) (level-up s ok v h) in
+      let own : level_of s v * branch v ≡ level_of s v * (packets_of s v + flow branch v) =
+      ap (λ (n : ℕ). level_of s v * n) (branch-own (probe_count s) (parent_of s) (Yard.rooted s ok) (packets_of s) v h) in
+      let step : level_of s v * branch v ≡ suc (level_of s (parent_of s v)) * branch v = ap (λ (n : ℕ). n * branch v) (level-up s ok v h) in
       omega (arith, own, step, flow-up v)
 
   -- each packet counts once for each probe on its walk
-  pub branches-hops : sumProbes (probeCount s) branch ≡ hops s
+  pub branches-hops : sum_probes (probe_count s) branch ≡ hops s
   unfolding hops
   branches-hops =
       let gateway : flow up 1 ≡ 0 * flow branch 1 = flow-up 1 ∙ ap (λ (n : ℕ). n * flow branch 1) gateway-level in
       omega (
         arith,
-        sum-add (probeCount s) (λ k. branch (k + 2)) (λ k. up (k + 2)),
-        sum_same (probeCount s) (λ k. branch (k + 2) + up (k + 2)) (λ k. packetsOf s (k + 2) * levelOf s (k + 2) + flow up (k + 2))
-            (λ k hk. balance (k + 2) (probe-yes (probeCount s) (k + 2) (omega arith) (omega arith))),
-        sum-add (probeCount s) (λ k. packetsOf s (k + 2) * levelOf s (k + 2)) (λ k. flow up (k + 2)),
-        inflow-all (probeCount s) (parent_of s) up (Yard.inside s ok),
+        sum-add (probe_count s) (λ k. branch (k + 2)) (λ k. up (k + 2)),
+        sum_same (probe_count s) (λ k. branch (k + 2) + up (k + 2)) (λ k. packets_of s (k + 2) * level_of s (k + 2) + flow up (k + 2))
+            (λ k hk. balance (k + 2) (probe-yes (probe_count s) (k + 2) (omega arith) (omega arith))),
+        sum-add (probe_count s) (λ k. packets_of s (k + 2) * level_of s (k + 2)) (λ k. flow up (k + 2)),
+        inflow-all (probe_count s) (parent_of s) up (Yard.inside s ok),
         gateway,
       )
 
   -- what the children of all probes have together: all hops but the last of each packet
-  pub inflows-hops : sumProbes (probeCount s) (inflow (probeCount s) (parent_of s) branch) + allPackets s ≡ hops s
-  unfolding allPackets
+  pub inflows-hops : sum_probes (probe_count s) (inflow (probe_count s) (parent_of s) branch) + all_packets s ≡ hops s
+  unfolding all_packets
   inflows-hops =
       omega (
         arith,
-        inflow-all (probeCount s) (parent_of s) branch (Yard.inside s ok),
-        branch-all (probeCount s) (parent_of s) (Yard.rooted s ok) (packetsOf s),
+        inflow-all (probe_count s) (parent_of s) branch (Yard.inside s ok),
+        branch-all (probe_count s) (parent_of s) (Yard.rooted s ok) (packets_of s),
         branches-hops,
       )

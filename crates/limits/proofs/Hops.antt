@@ -9,17 +9,17 @@ use native.Mathlib.Decide.{dec_lt}
 use native.Mathlib.Omega.{arith}
 use lib.Dec.{leb}
 use borrow.Author.Tests.{le-leb, lt-leb}
-use Rattle.meaning.specs.Words.{sum, sumProbes}
-use Rattle.meaning.specs.Sheet.{probeCount, packetsOf, levelOf, hops}
+use Rattle.meaning.specs.Words.{sum, sum_probes}
+use Rattle.meaning.specs.Sheet.{probe_count, packets_of, level_of, hops}
 use Rattle.meaning.specs.Colour.{depth}
-use Rattle.meaning.specs.Answer.{isAccepted, sheetTest}
+use Rattle.meaning.specs.Answer.{is_accepted, sheet_test}
 use Rattle.laws.proofs.Turns.{sum_same, sum-least, sum-constant}
 use Rattle.laws.proofs.Walk.{probe-yes}
 use Rattle.laws.proofs.Accepted.{accepted-yard, pairs-of-few}
-use Rattle.laws.proofs.Grounds.{few-probes, level-most}
+use Rattle.laws.proofs.Grounds.{few-probes, level_most}
 use Rattle.laws.proofs.Levels.{level-deep}
 use Rattle.limits.proofs.Sums.{sum-zero, sum-add, sum-swap, sum-times}
-use Rattle.limits.proofs.LevelLine.{fromLine, line-parts, line-some, from_first}
+use Rattle.limits.proofs.LevelLine.{from_line, line-parts, line-some, from_first}
 
 -- a level is the number of levels below it
 abbrev under : ℕ → ℕ → ℕ
@@ -50,17 +50,17 @@ unfolding sum
 steps zero = refl
 steps (suc n) = omega (arith, steps n, mul-suc (suc n) n, suc-mul n n)
 
-module _ (s : List ℕ) (ok : isAccepted (sheetTest s) ≡ true) where
+module _ (s : List ℕ) (ok : is_accepted (sheet_test s) ≡ true) where
   -- the probes above level j
   abbrev above : ℕ → ℕ
-  above j = fromLine s ok (λ _. 1) (j + 2)
+  above j = from_line s ok (λ _. 1) (j + 2)
 
   above-deepest : (j : ℕ) → depth s ≤ j → above j ≡ 0
   above-deepest j h =
-      sum-zero (probeCount s) (λ k. under (levelOf s (k + 2)) j) (λ k hk. under-no (levelOf s (k + 2)) j (omega (arith, level-deep s ok k hk)))
+      sum-zero (probe_count s) (λ k. under (level_of s (k + 2)) j) (λ k hk. under-no (level_of s (k + 2)) j (omega (arith, level-deep s ok k hk)))
 
-  above-few : (j : ℕ) → j ≤ depth s → above j + j ≤ probeCount s
-  above-few zero h = omega (arith, from_first s ok (λ _. 1), sum-constant (probeCount s) 1)
+  above-few : (j : ℕ) → j ≤ depth s → above j + j ≤ probe_count s
+  above-few zero h = omega (arith, from_first s ok (λ _. 1), sum-constant (probe_count s) 1)
   above-few (suc j) h =
       let next : suc j + 2 ≡ j + 2 + 1 = omega arith in
       omega (
@@ -68,24 +68,24 @@ module _ (s : List ℕ) (ok : isAccepted (sheetTest s) ≡ true) where
         above-few j (omega arith),
         line-parts s ok (λ _. 1) (j + 2),
         line-some s ok (λ _. 1) (λ _ _. le_refl 1) (j + 2) (probe-yes (depth s) (j + 2) (omega arith) (omega arith)),
-        ap (fromLine s ok (λ _. 1)) next,
+        ap (from_line s ok (λ _. 1)) next,
       )
 
-  above_most : (j : ℕ) → j < probeCount s → above j + j ≤ probeCount s
+  above_most : (j : ℕ) → j < probe_count s → above j + j ≤ probe_count s
   above_most j h = go (dec_lt j (depth s))
     where
-      go : Dec (j < depth s) → above j + j ≤ probeCount s
+      go : Dec (j < depth s) → above j + j ≤ probe_count s
       go (yes l) = above-few j (omega arith)
       go (no l) = omega (arith, above-deepest j (omega arith))
 
   -- all levels together
-  pub levels-most : 2 * sumProbes (probeCount s) (levelOf s) ≤ probeCount s * (probeCount s + 1)
+  pub levels-most : 2 * sum_probes (probe_count s) (level_of s) ≤ probe_count s * (probe_count s + 1)
   levels-most =
-      let p : ℕ = probeCount s in
+      let p : ℕ = probe_count s in
       omega (
         arith,
-        sum_same p (λ k. sum p (under (levelOf s (k + 2)))) (λ k. levelOf s (k + 2)) (λ k _. counts (levelOf s (k + 2)) p (level-most s ok (k + 2))),
-        sum-swap p p (λ k. under (levelOf s (k + 2))),
+        sum_same p (λ k. sum p (under (level_of s (k + 2)))) (λ k. level_of s (k + 2)) (λ k _. counts (level_of s (k + 2)) p (level_most s ok (k + 2))),
+        sum-swap p p (λ k. under (level_of s (k + 2))),
         sum-add p above (λ j. j),
         sum-least p (λ j. above j + j) (λ _. p) above_most,
         sum-constant p p,
@@ -98,11 +98,11 @@ module _ (s : List ℕ) (ok : isAccepted (sheetTest s) ≡ true) where
   hops-limit =
       omega (
         arith,
-        sum-least (probeCount s) (λ k. packetsOf s (k + 2) * levelOf s (k + 2)) (λ k. 15 * levelOf s (k + 2))
+        sum-least (probe_count s) (λ k. packets_of s (k + 2) * level_of s (k + 2)) (λ k. 15 * level_of s (k + 2))
             (λ k h.
-            mul-le-mul ((accepted-yard s ok).probe (k + 2) (probe-yes (probeCount s) (k + 2) (omega arith) (omega arith))).packets-most
-            (le_refl (levelOf s (k + 2)))),
-        sum-times (probeCount s) 15 (λ k. levelOf s (k + 2)),
+            mul-le-mul ((accepted-yard s ok).probe (k + 2) (probe-yes (probe_count s) (k + 2) (omega arith) (omega arith))).packets_most
+            (le_refl (level_of s (k + 2)))),
+        sum-times (probe_count s) 15 (λ k. level_of s (k + 2)),
         levels-most,
-        pairs-of-few (probeCount s) (few-probes s ok),
+        pairs-of-few (probe_count s) (few-probes s ok),
       )

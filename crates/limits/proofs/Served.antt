@@ -8,7 +8,7 @@ use native.Mathlib.Omega.{arith}
 use lib.Dec.{eqb, ltb}
 use borrow.Author.Tests.{eqb-true, ltb-true, ltb-false}
 use Rattle.meaning.specs.Words.{some}
-use Rattle.meaning.specs.Yard.{isProbe}
+use Rattle.meaning.specs.Yard.{is_probe}
 use Rattle.laws.proofs.Turns.{in_sum, some-where, some-none}
 use Rattle.laws.proofs.Walk.{probe-yes}
 use Rattle.laws.proofs.Slots.{and_left, and_right, true-or-false}
@@ -38,14 +38,14 @@ not-all all r lag now so short = omega arith
 
 -- `own` is what each has to begin with, `all` that with all below it, `lag` how many rounds it may be behind, `done r` what it has sent after r rounds
 module _ (p : ℕ) (parent own all lag : ℕ → ℕ) (done : ℕ → ℕ → ℕ)
-    (whole : (v : ℕ) → isProbe p v ≡ true → all v ≤ own v + inflow p parent all v)
-    (lags : (c : ℕ) → isProbe p c ≡ true → isProbe p (parent c) ≡ true → lag c + 1 ≤ lag (parent c) + own (parent c))
-    (serves : (r v : ℕ) → isProbe p v ≡ true → min (done r v + 1) (own v + inflow p parent (done r) v) ≤ done (suc r) v) where
+    (whole : (v : ℕ) → is_probe p v ≡ true → all v ≤ own v + inflow p parent all v)
+    (lags : (c : ℕ) → is_probe p c ≡ true → is_probe p (parent c) ≡ true → lag c + 1 ≤ lag (parent c) + own (parent c))
+    (serves : (r v : ℕ) → is_probe p v ≡ true → min (done r v + 1) (own v + inflow p parent (done r) v) ≤ done (suc r) v) where
   -- a child of v that has not sent all, or none
   behind : ℕ → ℕ → ℕ → Bool
   behind r v k = eqb (parent (k + 2)) v && ltb (done r (k + 2)) (all (k + 2))
 
-  pub served : (r v : ℕ) → isProbe p v ≡ true → min (all v) (r - lag v) ≤ done r v
+  pub served : (r v : ℕ) → is_probe p v ≡ true → min (all v) (r - lag v) ≤ done r v
   unfolding behind
   served zero v h = omega arith
   served (suc r) v h =
@@ -56,9 +56,9 @@ module _ (p : ℕ) (parent own all lag : ℕ → ℕ) (done : ℕ → ℕ → �
       let below = and_left (eqb (parent (k + 2)) v) (ltb (done r (k + 2)) (all (k + 2))) found.2 in
       let short = ltb-true (done r (k + 2)) (all (k + 2)) (and_right (eqb (parent (k + 2)) v) (ltb (done r (k + 2)) (all (k + 2))) found.2) in
       let up : parent (k + 2) ≡ v = eqb-true (parent (k + 2)) v below in
-      let probe : isProbe p (k + 2) ≡ true = probe-yes p (k + 2) (omega arith) (omega (arith, found.1)) in
+      let probe : is_probe p (k + 2) ≡ true = probe-yes p (k + 2) (omega arith) (omega (arith, found.1)) in
       let late : lag (k + 2) + 1 ≤ lag v + own v =
-      subst (λ (u : ℕ). lag (k + 2) + 1 ≤ lag u + own u) up (lags (k + 2) probe (subst (λ (u : ℕ). isProbe p u ≡ true) (sym up) h)) in
+      subst (λ (u : ℕ). lag (k + 2) + 1 ≤ lag u + own u) up (lags (k + 2) probe (subst (λ (u : ℕ). is_probe p u ≡ true) (sym up) h)) in
       let came = inflow-part p parent (done r) v k found.1 below in
       let sent = not-all (all (k + 2)) r (lag (k + 2)) (done r (k + 2)) (served r (k + 2) probe) short in
       one_more (all v) r (lag v) (done r v) (done (suc r) v) (own v + inflow p parent (done r) v) (serves r v h) (served r v h) (inl (omega (arith, late, came, sent))))
@@ -73,11 +73,11 @@ module _ (p : ℕ) (parent own all lag : ℕ → ℕ) (done : ℕ → ℕ → �
 
 -- `other r` is what each has sent after r steps, in each of which it sends at most one packet, and only one that it holds
 module _ (p : ℕ) (parent own : ℕ → ℕ) (done other : ℕ → ℕ → ℕ)
-    (serves : (r v : ℕ) → isProbe p v ≡ true → min (done r v + 1) (own v + inflow p parent (done r) v) ≤ done (suc r) v)
+    (serves : (r v : ℕ) → is_probe p v ≡ true → min (done r v + 1) (own v + inflow p parent (done r) v) ≤ done (suc r) v)
     (none_yet : (v : ℕ) → other 0 v ≡ 0)
-    (steps : (r v : ℕ) → isProbe p v ≡ true → (other (suc r) v ≤ other r v + 1) × (other (suc r) v ≤ own v + inflow p parent (other r) v)) where
+    (steps : (r v : ℕ) → is_probe p v ≡ true → (other (suc r) v ≤ other r v + 1) × (other (suc r) v ≤ own v + inflow p parent (other r) v)) where
   -- as many rounds that serve every holder send no less
-  pub never-ahead : (r v : ℕ) → isProbe p v ≡ true → other r v ≤ done r v
+  pub never-ahead : (r v : ℕ) → is_probe p v ≡ true → other r v ≤ done r v
   never-ahead zero v h = omega (arith, none_yet v)
   never-ahead (suc r) v h =
       let step = steps r v h in

@@ -9,15 +9,15 @@ use native.Mathlib.Nat.{not-suc-le-zero, le_of_suc-le-suc}
 use native.Mathlib.Omega.{arith}
 use lib.ListN.{length, get_or, length-append}
 use Rattle.meaning.specs.Words.{sum, count}
-use Rattle.meaning.specs.Sheet.{probeCount, parent_of}
+use Rattle.meaning.specs.Sheet.{probe_count, parent_of}
 use Rattle.meaning.specs.Rounds.{moved}
-use Rattle.meaning.specs.Answer.{isAccepted, sheetTest}
-use Rattle.meaning.specs.Book.{someSender, slotsWhere}
+use Rattle.meaning.specs.Answer.{is_accepted, sheet_test}
+use Rattle.meaning.specs.Book.{some_sender, slots_where}
 use Rattle.meaning.specs.Legal.{RunsIn, Runs}
 use Rattle.laws.proofs.Turns.{some-where, some-none}
-use Rattle.laws.proofs.Moving.{weighAll}
+use Rattle.laws.proofs.Moving.{weigh_all}
 use Rattle.laws.proofs.Slots.{true-or-false}
-use Rattle.limits.specs.Sent.{sentIn, sent}
+use Rattle.limits.specs.Sent.{sent_in, sent}
 use Rattle.limits.proofs.Sums.{together, together-add, together-none}
 use Rattle.limits.proofs.Sending.{passing-sent}
 use Rattle.limits.proofs.RunningSlots.{legal-listed}
@@ -34,23 +34,23 @@ first-apart (suc n) f = omega (arith, first-apart n f)
 
 module _ (passes : List ℕ → Bool) where
   length-next : (at : ℕ) (slot : List ℕ) (slots : List (List ℕ))
-      → length (slotsWhere passes at (slot ∷ slots)) ≡ cond (passes slot) 1 0 + length (slotsWhere passes (at + 1) slots)
-  unfolding slotsWhere
+      → length (slots_where passes at (slot ∷ slots)) ≡ cond (passes slot) 1 0 + length (slots_where passes (at + 1) slots)
+  unfolding slots_where
   length-next at slot slots =
-      length-append (cond (passes slot) (at ∷ []) []) (slotsWhere passes (at + 1) slots)
-      ∙ ap (λ (n : ℕ). n + length (slotsWhere passes (at + 1) slots)) (length-one (passes slot) at)
+      length-append (cond (passes slot) (at ∷ []) []) (slots_where passes (at + 1) slots)
+      ∙ ap (λ (n : ℕ). n + length (slots_where passes (at + 1) slots)) (length-one (passes slot) at)
 
   -- slots one behind another
-  pub where-append : (at : ℕ) (xs ys : List (List ℕ)) → slotsWhere passes at (xs ++ ys) ≡ slotsWhere passes at xs ++ slotsWhere passes (at + length xs) ys
-  unfolding slotsWhere
-  where-append at [] ys = ap (λ (n : ℕ). slotsWhere passes n ys) (omega arith)
+  pub where-append : (at : ℕ) (xs ys : List (List ℕ)) → slots_where passes at (xs ++ ys) ≡ slots_where passes at xs ++ slots_where passes (at + length xs) ys
+  unfolding slots_where
+  where-append at [] ys = ap (λ (n : ℕ). slots_where passes n ys) (omega arith)
   where-append at (x ∷ xs) ys =
       let later : at + 1 + length xs ≡ at + suc (length xs) = omega arith in
       rw (where-append (at + 1) xs ys, later, append_assoc)
 
   -- counted by place
-  pub where-count : (at : ℕ) (slots : List (List ℕ)) → length (slotsWhere passes at slots) ≡ count (length slots) (λ k. passes (get_or slots k []))
-  unfolding slotsWhere sum
+  pub where-count : (at : ℕ) (slots : List (List ℕ)) → length (slots_where passes at slots) ≡ count (length slots) (λ k. passes (get_or slots k []))
+  unfolding slots_where sum
   where-count at [] = refl
   where-count at (slot ∷ slots) =
       omega (
@@ -60,54 +60,54 @@ module _ (passes : List ℕ → Bool) where
         first-apart (length slots) (λ k. cond (passes (get_or (slot ∷ slots) k [])) 1 0),
       )
 
-in-weight : (w : ℕ → ℕ) (slot : List ℕ) (i : ℕ) → i < length slot → w (get_or slot i 0) ≤ weighAll w slot
-unfolding weighAll
+in-weight : (w : ℕ → ℕ) (slot : List ℕ) (i : ℕ) → i < length slot → w (get_or slot i 0) ≤ weigh_all w slot
+unfolding weigh_all
 in-weight w [] i h = absurd (not-suc-le-zero h)
 in-weight w (u ∷ slot) zero h = omega arith
 in-weight w (u ∷ slot) (suc i) h = omega (arith, in-weight w slot i (le_of_suc-le-suc h))
 
-no-weight : (w : ℕ → ℕ) (slot : List ℕ) → ((i : ℕ) → i < length slot → w (get_or slot i 0) ≡ 0) → weighAll w slot ≡ 0
-unfolding weighAll
+no-weight : (w : ℕ → ℕ) (slot : List ℕ) → ((i : ℕ) → i < length slot → w (get_or slot i 0) ≡ 0) → weigh_all w slot ≡ 0
+unfolding weigh_all
 no-weight w [] none = refl
 no-weight w (u ∷ slot) none = omega (arith, none 0 (omega arith), no-weight w slot (λ i h. none (suc i) (omega arith)))
 
 -- where at most one sender passes, how many do tells whether some does
-one-or-none : (test : ℕ → Bool) (slot : List ℕ) → weighAll (λ u. cond (test u) 1 0) slot ≤ 1
-    → cond (someSender test slot) 1 0 ≡ weighAll (λ u. cond (test u) 1 0) slot
+one-or-none : (test : ℕ → Bool) (slot : List ℕ) → weigh_all (λ u. cond (test u) 1 0) slot ≤ 1
+    → cond (some_sender test slot) 1 0 ≡ weigh_all (λ u. cond (test u) 1 0) slot
 one-or-none test slot few =
     ⊎_elim
-    (λ (e : someSender test slot ≡ true).
+    (λ (e : some_sender test slot ≡ true).
     let found = some-where (length slot) (λ i. test (get_or slot i 0)) e in
     let one : ◌≡◌ {A = ℕ} (cond (test (get_or slot found.0 0)) 1 0) 1 = ap (λ (b : Bool). cond b 1 0) found.2 in
-    let yes : ◌≡◌ {A = ℕ} (cond (someSender test slot) 1 0) 1 = ap (λ (b : Bool). cond b 1 0) e in
+    let yes : ◌≡◌ {A = ℕ} (cond (some_sender test slot) 1 0) 1 = ap (λ (b : Bool). cond b 1 0) e in
     omega (arith, one, yes, in-weight (λ u. cond (test u) 1 0) slot found.0 found.1))
-    (λ (e : someSender test slot ≡ false).
-    let no : ◌≡◌ {A = ℕ} (cond (someSender test slot) 1 0) 0 = ap (λ (b : Bool). cond b 1 0) e in
+    (λ (e : some_sender test slot ≡ false).
+    let no : ◌≡◌ {A = ℕ} (cond (some_sender test slot) 1 0) 0 = ap (λ (b : Bool). cond b 1 0) e in
     omega (
       arith,
       no,
       no-weight (λ u. cond (test u) 1 0) slot
           (λ i h. ap (λ (b : Bool). cond b 1 0) (some-none (length slot) (λ i. test (get_or slot i 0)) e i h)),
     ))
-    (true-or-false (someSender test slot))
+    (true-or-false (some_sender test slot))
 
-module _ (s : List ℕ) (ok : isAccepted (sheetTest s) ≡ true) (test : ℕ → Bool) (exclusive : Exclusive s test) where
+module _ (s : List ℕ) (ok : is_accepted (sheet_test s) ≡ true) (test : ℕ → Bool) (exclusive : Exclusive s test) where
   pub slots-of-some : (held : List ℕ) (at : ℕ) (slots : List (List ℕ)) → Runs s held slots
-      → length (slotsWhere (someSender test) at slots) ≡ together (probeCount s) test (sent slots)
-  unfolding RunsIn sent slotsWhere
-  slots-of-some held at [] runs = omega (arith, together-none (probeCount s) test)
+      → length (slots_where (some_sender test) at slots) ≡ together (probe_count s) test (sent slots)
+  unfolding RunsIn sent slots_where
+  slots-of-some held at [] runs = omega (arith, together-none (probe_count s) test)
   slots-of-some held at (slot ∷ slots) runs =
       let pass = legal-listed s ok held slot runs.0 in
       omega (
         arith,
-        length-next (someSender test) at slot slots,
+        length-next (some_sender test) at slot slots,
         one-or-none test slot (one_passes s ok test exclusive 1 slot pass.rising pass.probes pass.apart),
-        passing-sent (probeCount s) test slot pass.probes,
-        together-add (probeCount s) test (sentIn slot) (sent slots),
+        passing-sent (probe_count s) test slot pass.probes,
+        together-add (probe_count s) test (sent_in slot) (sent slots),
         slots-of-some (moved (parent_of s) slot held) (at + 1) slots runs.1,
       )
 
   -- the same, counted by place
   pub count-of-some : (held : List ℕ) (slots : List (List ℕ)) → Runs s held slots
-      → count (length slots) (λ k. someSender test (get_or slots k [])) ≡ together (probeCount s) test (sent slots)
-  count-of-some held slots runs = omega (arith, where-count (someSender test) 1 slots, slots-of-some held 1 slots runs)
+      → count (length slots) (λ k. some_sender test (get_or slots k [])) ≡ together (probe_count s) test (sent slots)
+  count-of-some held slots runs = omega (arith, where-count (some_sender test) 1 slots, slots-of-some held 1 slots runs)

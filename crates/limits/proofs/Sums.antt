@@ -7,18 +7,18 @@ use native.Mathlib.Nat.{not-suc-le-zero, mul-zero, mul-add}
 use native.Mathlib.Omega.{arith}
 use lib.Dec.{eqb}
 use borrow.Author.Tests.{eq-eqb, ne_eqb}
-use Rattle.meaning.specs.Words.{forEach, sum, sumProbes}
-use Rattle.meaning.specs.Yard.{isProbe}
+use Rattle.meaning.specs.Words.{for_each, sum, sum_probes}
+use Rattle.meaning.specs.Yard.{is_probe}
 use Rattle.laws.proofs.Turns.{below-or-last, sum_same, sum-least}
 use Rattle.laws.proofs.Walk.{probe-yes, probe-at}
 
 -- what each turn carries on, with the number of turns
-pub forEach-counts : {A : Type 0} (P : ℕ → A → Type 0) (n : ℕ) (step : ℕ → A → A) (start : A) → P 0 start
-    → ((k : ℕ) → k < n → (a : A) → P k a → P (suc k) (step k a)) → P n (forEach n step start)
-unfolding forEach
-forEach-counts P zero step start p keep = p
-forEach-counts P (suc n) step start p keep =
-    keep n (omega arith) (forEach n step start) (forEach-counts P n step start p (λ k h. keep k (omega arith)))
+pub for_each-counts : {A : Type 0} (P : ℕ → A → Type 0) (n : ℕ) (step : ℕ → A → A) (start : A) → P 0 start
+    → ((k : ℕ) → k < n → (a : A) → P k a → P (suc k) (step k a)) → P n (for_each n step start)
+unfolding for_each
+for_each-counts P zero step start p keep = p
+for_each-counts P (suc n) step start p keep =
+    keep n (omega arith) (for_each n step start) (for_each-counts P n step start p (λ k h. keep k (omega arith)))
 
 pub sum-zero : (n : ℕ) (f : ℕ → ℕ) → ((k : ℕ) → k < n → f k ≡ 0) → sum n f ≡ 0
 unfolding sum
@@ -61,14 +61,14 @@ sum-only (suc n) f j h none =
     (below-or-last j n h)
 
 -- a sum over the probes with one term that counts
-pub probes-only : (p : ℕ) (f : ℕ → ℕ) (v : ℕ) → isProbe p v ≡ true → ((u : ℕ) → (u ≡ v → ⊥) → f u ≡ 0) → sumProbes p f ≡ f v
+pub probes-only : (p : ℕ) (f : ℕ → ℕ) (v : ℕ) → is_probe p v ≡ true → ((u : ℕ) → (u ≡ v → ⊥) → f u ≡ 0) → sum_probes p f ≡ f v
 probes-only p f v h none =
     let at = probe-at p v h in
     sum-only p (λ k. f (k + 2)) (v - 2) at.0 (λ k hk other. none (k + 2) (λ e. other (omega arith))) ∙ ap f at.1
 
 -- what the probes that pass a test have together, by any number that each has; of the children of a node it is the inflow
 abbrev pub together : ℕ → (ℕ → Bool) → (ℕ → ℕ) → ℕ
-together p test many = sumProbes p (λ v. cond (test v) (many v) 0)
+together p test many = sum_probes p (λ v. cond (test v) (many v) 0)
 
 module _ (p : ℕ) (test : ℕ → Bool) where
   pub together-add : (x y : ℕ → ℕ) → together p test (λ v. x v + y v) ≡ together p test x + together p test y
@@ -99,20 +99,20 @@ module _ (p : ℕ) (test : ℕ → Bool) where
       omega (arith, together-least x y (λ k h t. omega (arith, e k h t)), together-least y x (λ k h t. omega (arith, e k h t)))
 
   -- where one probe alone has one, it is counted if that probe passes
-  pub together-one : (u : ℕ) → isProbe p u ≡ true → together p test (λ v. cond (eqb u v) 1 0) ≡ cond (test u) 1 0
+  pub together-one : (u : ℕ) → is_probe p u ≡ true → together p test (λ v. cond (eqb u v) 1 0) ≡ cond (test u) 1 0
   together-one u h =
       probes-only p (λ v. cond (test v) (cond (eqb u v) 1 0) 0) u h
       (λ v other. ap (λ (b : Bool). cond (test v) (cond b 1 0) 0) (ne_eqb u v (λ e. other (sym e))) ∙ zero-either (test v))
       ∙ ap (λ (b : Bool). cond (test u) (cond b 1 0) 0) (eq-eqb u u refl)
 
 -- of one probe alone
-pub together-itself : (p : ℕ) (many : ℕ → ℕ) (u : ℕ) → isProbe p u ≡ true → together p (λ v. eqb v u) many ≡ many u
+pub together-itself : (p : ℕ) (many : ℕ → ℕ) (u : ℕ) → is_probe p u ≡ true → together p (λ v. eqb v u) many ≡ many u
 together-itself p many u h =
     probes-only p (λ v. cond (eqb v u) (many v) 0) u h (λ v other. ap (λ (b : Bool). cond b (many v) 0) (ne_eqb v u other))
     ∙ ap (λ (b : Bool). cond b (many u) 0) (eq-eqb u u refl)
 
 -- of those that pass one of two tests, where none passes both
-pub together-either : (p : ℕ) (f g : ℕ → Bool) (many : ℕ → ℕ) → ((v : ℕ) → isProbe p v ≡ true → f v ≡ true → g v ≡ false)
+pub together-either : (p : ℕ) (f g : ℕ → Bool) (many : ℕ → ℕ) → ((v : ℕ) → is_probe p v ≡ true → f v ≡ true → g v ≡ false)
     → together p (λ v. f v || g v) many ≡ together p f many + together p g many
 together-either p f g many apart =
     sum_same p (λ k. cond (f (k + 2) || g (k + 2)) (many (k + 2)) 0) (λ k. cond (f (k + 2)) (many (k + 2)) 0 + cond (g (k + 2)) (many (k + 2)) 0)

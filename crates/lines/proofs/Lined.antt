@@ -10,13 +10,13 @@ use borrow.Author.Tests.{le-leb, lt-leb}
 use lib.ListN.{length, take, drop, length-append}
 use lib.Seq.{sets-eq, length-take-le}
 use Rattle.meaning.specs.Plan.{front}
-use Rattle.meaning.specs.Lister.{text, decimal, said, sendersText, slotLines, numbersLine, slotLine}
-use Rattle.lines.specs.Line.{lineLength, lineIn, Put}
+use Rattle.meaning.specs.Lister.{text, decimal, said, senders_text, slot_lines, numbers_line, slot_line}
+use Rattle.lines.specs.Line.{line_length, line_in, Put}
 use Rattle.lines.proofs.Putting.{put-long}
 
 -- what a function that writes a line answers, and the buffer afterwards
 abbrev pub Lined : List ℕ → List ℕ → List ℕ → ℕ → Type 0
-Lined before bytes after answer = (answer ≡ lineLength before bytes) × (after ≡ lineIn before bytes)
+Lined before bytes after answer = (answer ≡ line_length before bytes) × (after ≡ line_in before bytes)
 
 -- where the buffer is too short
 pub line-short : (l bytes : List ℕ) → length l < length bytes → Lined l bytes l 0
@@ -49,8 +49,8 @@ answered-put {after} {end} h p =
     ((within, sym (length-take-le end after within)), line-put h p)
 
 -- one turn of the other lines is the line of a slot
-pub slot-line : (done : ℕ) (slot : List ℕ) (slots : List (List ℕ)) → slotLines done (slot ∷ slots) ≡ slotLine (suc done) slot ++ slotLines (suc done) slots
-unfolding slotLines
+pub slot-line : (done : ℕ) (slot : List ℕ) (slots : List (List ℕ)) → slot_lines done (slot ∷ slots) ≡ slot_line (suc done) slot ++ slot_lines (suc done) slots
+unfolding slot_lines
 slot-line done slot slots = refl
 
 -- how long the words of the lines are
@@ -107,9 +107,9 @@ refusal-length number place =
     length-append (said "refused" number ++ said "" place) (text "\n")
     ∙ (omega (arith, length-append (said "refused" number) (said "" place), said-length "refused" number, sender-length place, refused, newline))
 
-pub numbers-length : (a b c d e : ℕ) → length (numbersLine a b c d e)
+pub numbers-length : (a b c d e : ℕ) → length (numbers_line a b c d e)
     ≡ 42 + (length (decimal 5 a) + length (decimal 5 b)) + (length (decimal 5 c) + length (decimal 5 d)) + length (decimal 5 e)
-unfolding numbersLine
+unfolding numbers_line
 numbers-length a b c d e =
     let two = said "colours" a ++ said " slots" b in
     let three = two ++ said " packets" c in
@@ -134,11 +134,11 @@ numbers-length a b c d e =
       newline,
     ))
 
-pub slot-length : (number : ℕ) (senders : List ℕ) → length (slotLine number senders) ≡ 2 + length (decimal 5 number) + length (sendersText senders)
-unfolding slotLine
+pub slot-length : (number : ℕ) (senders : List ℕ) → length (slot_line number senders) ≡ 2 + length (decimal 5 number) + length (senders_text senders)
+unfolding slot_line
 slot-length number senders =
-    length-append (decimal 5 number ++ text ":" ++ sendersText senders) (text "\n")
-    ∙ (omega (arith, length-append (decimal 5 number ++ text ":") (sendersText senders), length-append (decimal 5 number) (text ":"), colon, newline))
+    length-append (decimal 5 number ++ text ":" ++ senders_text senders) (text "\n")
+    ∙ (omega (arith, length-append (decimal 5 number ++ text ":") (senders_text senders), length-append (decimal 5 number) (text ":"), colon, newline))
 
 -- whether the buffer has room, by the digits that were counted
 module _ (number place d e long : ℕ) (count-number : d ≡ length (decimal 5 number)) (count-place : e ≡ length (decimal 5 place)) where
@@ -150,8 +150,8 @@ module _ (number place d e long : ℕ) (count-number : d ≡ length (decimal 5 n
 
 module _ (a b c d e k l m n o long : ℕ) (count-a : k ≡ length (decimal 5 a)) (count-b : l ≡ length (decimal 5 b))
     (count-c : m ≡ length (decimal 5 c)) (count-d : n ≡ length (decimal 5 d)) (count-e : o ≡ length (decimal 5 e)) where
-  pub numbers-short : long < 42 + (k + l) + (m + n) + o → long < length (numbersLine a b c d e)
+  pub numbers-short : long < 42 + (k + l) + (m + n) + o → long < length (numbers_line a b c d e)
   numbers-short h = omega (arith, numbers-length a b c d e)
 
-  pub numbers-room : 42 + (k + l) + (m + n) + o ≤ long → length (numbersLine a b c d e) ≤ long
+  pub numbers-room : 42 + (k + l) + (m + n) + o ≤ long → length (numbers_line a b c d e) ≤ long
   numbers-room h = omega (arith, numbers-length a b c d e)

@@ -5,12 +5,12 @@ use Rattle.meaning.specs.Words.{Bytes}
 use Rattle.meaning.specs.Plan.{front}
 
 -- how many bytes are written: all, or none where the buffer is too short for the line
-abbrev pub lineLength : (buffer bytes : Bytes) → ℕ
-lineLength buffer bytes = cond (leb (length bytes) (length buffer)) (length bytes) 0
+abbrev pub line_length : (buffer bytes : Bytes) → ℕ
+line_length buffer bytes = cond (leb (length bytes) (length buffer)) (length bytes) 0
 
 -- the buffer afterwards: the line at its start and the rest as before, or untouched where it is too short
-abbrev pub lineIn : (buffer bytes : Bytes) → Bytes
-lineIn buffer bytes = cond (leb (length bytes) (length buffer)) (front buffer bytes) buffer
+abbrev pub line_in : (buffer bytes : Bytes) → Bytes
+line_in buffer bytes = cond (leb (length bytes) (length buffer)) (front buffer bytes) buffer
 
 -- bytes that fit at a place of a buffer: all of them, or none where they do not
 unfoldable pub fitting : (buffer : Bytes) → (at : ℕ) → (bytes : Bytes) → Bytes

@@ -1,7 +1,7 @@
 // The lines that the lister prints: each function decides every byte of one, in a lent buffer.
 ghost use Rattle.std.specs.Prelude.{◌≡◌, ◌++◌, ◌+◌, ◌≤◌, leb, length};
-ghost use Rattle.meaning.specs.Lister.{decimal, said, sendersText, refusalLine, numbersLine, slotLine};
-ghost use Rattle.lines.specs.Line.{lineLength, lineIn, fitting, Put};
+ghost use Rattle.meaning.specs.Lister.{decimal, said, senders_text, refusal_line, numbers_line, slot_line};
+ghost use Rattle.lines.specs.Line.{line_length, line_in, fitting, Put};
 
 use meaning::{Outcome, Probe, Slot};
 
@@ -103,8 +103,8 @@ pub fn put_long(n: u64, out: &mut [u8], at: usize) -> usize
 
 // A refusal's line: its number and place.
 pub fn refusal_line(outcome: Outcome, out: &mut [u8]) -> usize
-    ensures answer { result ≡ lineLength out.old (refusalLine outcome) }
-    ensures buffer { out.new ≡ lineIn out.old (refusalLine outcome) }
+    ensures answer { result ≡ line_length out.old (refusal_line outcome) }
+    ensures buffer { out.new ≡ line_in out.old (refusal_line outcome) }
 {
     let number = outcome.number as u16;
     let place = outcome.place;
@@ -126,8 +126,8 @@ pub fn numbers_line(
     least: u16,
     out: &mut [u8],
 ) -> usize
-    ensures answer { result ≡ lineLength out.old (numbersLine colours slots packets heaviest least) }
-    ensures buffer { out.new ≡ lineIn out.old (numbersLine colours slots packets heaviest least) }
+    ensures answer { result ≡ line_length out.old (numbers_line colours slots packets heaviest least) }
+    ensures buffer { out.new ≡ line_in out.old (numbers_line colours slots packets heaviest least) }
 {
     let few = digits(5, colours as u64) as usize + digits(5, slots as u64) as usize;
     let more = digits(5, packets as u64) as usize + digits(5, heaviest as u64) as usize;
@@ -145,7 +145,7 @@ pub fn numbers_line(
 
 // Whether a slot's line has room.
 fn slot_fits(number: Slot, senders: &[u8], room: usize) -> bool
-    ensures { result ≡ leb (length (slotLine number.0 senders.now)) room }
+    ensures { result ≡ leb (length (slot_line number.0 senders.now)) room }
 {
     let n = number.0;
     let around = 2 + digits(5, n as u64) as usize;
@@ -176,8 +176,8 @@ fn put_sender(v: Probe, out: &mut [u8], at: usize) -> usize
 
 // Puts the senders of a slot at a place, each after a space; says where they end.
 fn put_senders(senders: &[u8], out: &mut [u8], at: usize) -> usize
-    requires { at + length (sendersText senders.now) ≤ length out.old }
-    ensures { Put out.old at (sendersText senders.now) out.new result }
+    requires { at + length (senders_text senders.now) ≤ length out.old }
+    ensures { Put out.old at (senders_text senders.now) out.new result }
 {
     let mut end = at;
     let mut i = 0;
@@ -190,8 +190,8 @@ fn put_senders(senders: &[u8], out: &mut [u8], at: usize) -> usize
 
 // The line of one slot: its number and its senders.
 pub fn slot_line(number: Slot, senders: &[u8], out: &mut [u8]) -> usize
-    ensures answer { result ≡ lineLength out.old (slotLine number.0 senders.now) }
-    ensures buffer { out.new ≡ lineIn out.old (slotLine number.0 senders.now) }
+    ensures answer { result ≡ line_length out.old (slot_line number.0 senders.now) }
+    ensures buffer { out.new ≡ line_in out.old (slot_line number.0 senders.now) }
 {
     if !slot_fits(number, senders, out.len()) {
         return 0;

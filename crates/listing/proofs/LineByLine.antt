@@ -9,16 +9,16 @@ use native.Mathlib.Omega.{arith}
 use borrow.Author.Tests.{le-leb}
 use borrow.Rule.Slice.PartMut.{put_mid}
 use lib.ListN.{length, get_or, take, drop, length-append, length-drop}
-use Rattle.meaning.specs.Plan.{front, next_at, sendersAt, slotsFrom}
-use Rattle.meaning.specs.Lister.{slotLines, slotLine}
-use Rattle.lines.specs.Line.{lineLength, lineIn}
+use Rattle.meaning.specs.Plan.{front, next_at, senders_at, slots_from}
+use Rattle.meaning.specs.Lister.{slot_lines, slot_line}
+use Rattle.lines.specs.Line.{line_length, line_in}
 use Rattle.lines.proofs.Lined.{slot-line}
 use Rattle.laws.proofs.Lists.{length_front}
 use Rattle.plan.proofs.TurnByTurn.{front-front, part-from, put-behind}
 use Rattle.listing.specs.Listed.{Listing}
 
 -- a line that a buffer has room for
-pub line-whole : (l bytes : List ℕ) → length bytes ≤ length l → (lineLength l bytes ≡ length bytes) × (lineIn l bytes ≡ front l bytes)
+pub line-whole : (l bytes : List ℕ) → length bytes ≤ length l → (line_length l bytes ≡ length bytes) × (line_in l bytes ≡ front l bytes)
 line-whole l bytes h =
     let room = le-leb (length bytes) (length l) h in
     (ap (λ (b : Bool). cond b (length bytes) 0) room, ap (λ (b : Bool). cond b (front l bytes) l) room)
@@ -34,12 +34,12 @@ behind-front d xs ys at l part e room its written =
 
 -- one slot more
 next-slot : (plan : List ℕ) (place slots k : ℕ) → k < slots
-    → slotsFrom plan place (slots - k) ≡ sendersAt plan place ∷ slotsFrom plan (next_at plan place) (slots - (k + 1))
-unfolding slotsFrom
+    → slots_from plan place (slots - k) ≡ senders_at plan place ∷ slots_from plan (next_at plan place) (slots - (k + 1))
+unfolding slots_from
 next-slot plan place slots k h =
-    let one : slots - k ≡ suc (slots - (k + 1)) = omega arith in ap (slotsFrom plan place) one
+    let one : slots - k ≡ suc (slots - (k + 1)) = omega arith in ap (slots_from plan place) one
 
-pub listing_start : (plan before : List ℕ) (slots : ℕ) → length (slotLines 0 (slotsFrom plan 2 slots)) ≤ length before
+pub listing_start : (plan before : List ℕ) (slots : ℕ) → length (slot_lines 0 (slots_from plan 2 slots)) ≤ length before
     → Listing plan slots before before 2 0 0
 listing_start plan before slots room =
     record {
@@ -47,7 +47,7 @@ listing_start plan before slots room =
       fits = room;
       within = omega arith;
       near = omega arith;
-      whole = ap (λ (k : ℕ). slotLines 0 (slotsFrom plan 2 k)) (sym (sub-zero slots));
+      whole = ap (λ (k : ℕ). slot_lines 0 (slots_from plan 2 k)) (sym (sub-zero slots));
       ends = refl;
       wrote = refl;
     }
@@ -55,7 +55,7 @@ listing_start plan before slots room =
 module _ {plan : List ℕ} {slots : ℕ} {before after : List ℕ} {place at k : ℕ} (now : Listing plan slots before after place at k) where
   written-within : at ≤ length before
   written-within =
-      omega (arith, now.fits, now.ends, ap length now.whole ∙ length-append now.done (slotLines k (slotsFrom plan place (slots - k))))
+      omega (arith, now.fits, now.ends, ap length now.whole ∙ length-append now.done (slot_lines k (slots_from plan place (slots - k))))
 
   pub listing-long : length after ≡ length before
   listing-long = ap length now.wrote ∙ length_front before now.done (omega (arith, written-within, now.ends))
@@ -63,34 +63,34 @@ module _ {plan : List ℕ} {slots : ℕ} {before after : List ℕ} {place at k :
   pub listing-within : at ≤ length after
   listing-within = omega (arith, written-within, listing-long)
 
-  pub listing-all : slots ≤ k → (at ≡ length (slotLines 0 (slotsFrom plan 2 slots))) × (after ≡ front before (slotLines 0 (slotsFrom plan 2 slots)))
-  unfolding slotsFrom slotLines
+  pub listing-all : slots ≤ k → (at ≡ length (slot_lines 0 (slots_from plan 2 slots))) × (after ≡ front before (slot_lines 0 (slots_from plan 2 slots)))
+  unfolding slots_from slot_lines
   listing-all h =
       let none : slots - k ≡ 0 = omega (arith, h) in
-      let all : now.done ≡ slotLines 0 (slotsFrom plan 2 slots) =
-      sym (now.whole ∙ ap (λ (n : ℕ). now.done ++ slotLines k (slotsFrom plan place n)) none ∙ append-nil now.done)
+      let all : now.done ≡ slot_lines 0 (slots_from plan 2 slots) =
+      sym (now.whole ∙ ap (λ (n : ℕ). now.done ++ slot_lines k (slots_from plan place n)) none ∙ append-nil now.done)
       in
       (now.ends ∙ ap length all, now.wrote ∙ ap (front before) all)
 
   -- the next slot and its line
-  module _ (more : k < slots) (senders : List ℕ) (are : senders ≡ sendersAt plan place) where
+  module _ (more : k < slots) (senders : List ℕ) (are : senders ≡ senders_at plan place) where
     line : List ℕ
-    line = slotLine (k + 1) senders
+    line = slot_line (k + 1) senders
 
     abbrev rest : List ℕ
     rest = take (length after - at) (drop at after)
 
     left : List ℕ
-    left = slotLines (k + 1) (slotsFrom plan (next_at plan place) (slots - (k + 1)))
+    left = slot_lines (k + 1) (slots_from plan (next_at plan place) (slots - (k + 1)))
 
-    whole : slotLines 0 (slotsFrom plan 2 slots) ≡ (now.done ++ line) ++ left
+    whole : slot_lines 0 (slots_from plan 2 slots) ≡ (now.done ++ line) ++ left
     unfolding line left
     whole =
         now.whole
         ∙ ap (λ (l : List ℕ). now.done ++ l)
-        (ap (slotLines k) (next-slot plan place slots k more)
-        ∙ slot-line k (sendersAt plan place) (slotsFrom plan (next_at plan place) (slots - (k + 1)))
-        ∙ ap₂ (λ (j : ℕ) (l : List ℕ). slotLine j l ++ slotLines j (slotsFrom plan (next_at plan place) (slots - (k + 1)))) (sym (add-one k)) (sym are))
+        (ap (slot_lines k) (next-slot plan place slots k more)
+        ∙ slot-line k (senders_at plan place) (slots_from plan (next_at plan place) (slots - (k + 1)))
+        ∙ ap₂ (λ (j : ℕ) (l : List ℕ). slot_line j l ++ slot_lines j (slots_from plan (next_at plan place) (slots - (k + 1)))) (sym (add-one k)) (sym are))
         ∙ sym (append_assoc now.done line left)
 
     room : length now.done + length line ≤ length before
@@ -99,11 +99,11 @@ module _ {plan : List ℕ} {slots : ℕ} {before after : List ℕ} {place at k :
     room-left : length line ≤ length rest
     room-left = omega (arith, room, listing-long, now.ends, ap length (part-from after at) ∙ length-drop at after)
 
-    pub listing-end : (bytes : ℕ) → bytes ≡ lineLength rest (slotLine (k + 1) senders) → at + bytes ≤ length before
+    pub listing-end : (bytes : ℕ) → bytes ≡ line_length rest (slot_line (k + 1) senders) → at + bytes ≤ length before
     unfolding line
     listing-end bytes answer = omega (arith, room, now.ends, answer, (line-whole rest line room-left).0)
 
-    pub listing-next : (part : List ℕ) (bytes n : ℕ) → bytes ≡ lineLength rest (slotLine (k + 1) senders) → part ≡ lineIn rest (slotLine (k + 1) senders)
+    pub listing-next : (part : List ℕ) (bytes n : ℕ) → bytes ≡ line_length rest (slot_line (k + 1) senders) → part ≡ line_in rest (slot_line (k + 1) senders)
         → n ≡ get_or plan place 0 → n < 256
         → Listing plan slots before (put_mid at (length after - at) after part) (place + (1 + n)) (at + bytes) (k + 1)
     unfolding line left
@@ -115,7 +115,7 @@ module _ {plan : List ℕ} {slots : ℕ} {before after : List ℕ} {place at k :
           fits = now.fits;
           within = omega (arith, more);
           near = omega (arith, now.near, byte);
-          whole = whole ∙ ap (λ (p : ℕ). (now.done ++ line) ++ slotLines (k + 1) (slotsFrom plan p (slots - (k + 1)))) next;
+          whole = whole ∙ ap (λ (p : ℕ). (now.done ++ line) ++ slot_lines (k + 1) (slots_from plan p (slots - (k + 1)))) next;
           ends = ap₂ ◌+◌ now.ends (answer ∙ written.0) ∙ sym (length-append now.done line);
           wrote = behind-front before now.done line at after part now.ends (omega (arith, room)) now.wrote (buffer ∙ written.1);
         }

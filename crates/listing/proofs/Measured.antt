@@ -6,12 +6,12 @@ use Prim.Native.Nat.{ℕ, suc, ◌+◌, ◌*◌, ◌/◌, ◌≤◌, ◌<◌}
 use native.Mathlib.Decide.{dec_lt}
 use native.Mathlib.Omega.{arith}
 use lib.ListN.{length, get_or, length-append}
-use Rattle.meaning.specs.Sheet.{probeCount, parent_of}
-use Rattle.meaning.specs.Plan.{slotBytes}
+use Rattle.meaning.specs.Sheet.{probe_count, parent_of}
+use Rattle.meaning.specs.Plan.{slot_bytes}
 use Rattle.meaning.specs.Rounds.{moved}
-use Rattle.meaning.specs.Answer.{isAccepted, sheetTest}
+use Rattle.meaning.specs.Answer.{is_accepted, sheet_test}
 use Rattle.meaning.specs.Legal.{RunsIn, Runs}
-use Rattle.meaning.specs.Lister.{text, decimal, said, sendersText, slotLines, numbersLine, slotLine}
+use Rattle.meaning.specs.Lister.{text, decimal, said, senders_text, slot_lines, numbers_line, slot_line}
 use Rattle.laws.proofs.Walk.{probe-most}
 use Rattle.laws.proofs.Moving.{Each}
 use Rattle.laws.proofs.Grounds.{few-probes}
@@ -27,34 +27,34 @@ two_digits n h = go (dec_lt n 10)
     go (yes l) = omega (arith, ap length (decimal-last 5 n (λ e. omega arith) l))
     go (no l) = omega (arith, length_more 5 n (λ e. omega arith) (omega arith), ap length (decimal-last 4 (n / 10) (λ e. omega arith) (omega arith)))
 
-senders-most : (senders : List ℕ) → Each (λ v. v < 100) senders → length (sendersText senders) ≤ 3 * length senders
-unfolding sendersText Each
+senders-most : (senders : List ℕ) → Each (λ v. v < 100) senders → length (senders_text senders) ≤ 3 * length senders
+unfolding senders_text Each
 senders-most [] small = omega arith
 senders-most (v ∷ senders) small =
-    omega (arith, length-append (said "" v) (sendersText senders), sender-length v, two_digits v small.0, senders-most senders small.1)
+    omega (arith, length-append (said "" v) (senders_text senders), sender-length v, two_digits v small.0, senders-most senders small.1)
 
-no_lines : (done : ℕ) → length (slotLines done []) ≡ 0
-unfolding slotLines
+no_lines : (done : ℕ) → length (slot_lines done []) ≡ 0
+unfolding slot_lines
 no_lines done = refl
 
 -- the lines of slots that run
-pub slots-most : (s : List ℕ) → isAccepted (sheetTest s) ≡ true → (slots : List (List ℕ)) (held : List ℕ) (done : ℕ) → Runs s held slots
-    → length (slotLines done slots) ≤ 4 * length slots + 3 * length (slotBytes slots)
-unfolding RunsIn slotBytes
+pub slots-most : (s : List ℕ) → is_accepted (sheet_test s) ≡ true → (slots : List (List ℕ)) (held : List ℕ) (done : ℕ) → Runs s held slots
+    → length (slot_lines done slots) ≤ 4 * length slots + 3 * length (slot_bytes slots)
+unfolding RunsIn slot_bytes
 slots-most s ok [] held done runs = omega (arith, no_lines done)
 slots-most s ok (slot ∷ slots) held done runs =
     omega (
       arith,
-      ap length (slot-line done slot slots) ∙ length-append (slotLine (suc done) slot) (slotLines (suc done) slots),
+      ap length (slot-line done slot slots) ∙ length-append (slot_line (suc done) slot) (slot_lines (suc done) slots),
       slot-length (suc done) slot,
       digits-most 5 (suc done),
-      senders-most slot (at_each (λ v. v < 100) slot (λ i h. omega (arith, probe-most (probeCount s) (get_or slot i 0) (runs.0.probes i h), few-probes s ok))),
-      length-append slot (slotBytes slots),
+      senders-most slot (at_each (λ v. v < 100) slot (λ i h. omega (arith, probe-most (probe_count s) (get_or slot i 0) (runs.0.probes i h), few-probes s ok))),
+      length-append slot (slot_bytes slots),
       slots-most s ok slots (moved (parent_of s) slot held) (suc done) runs.1,
     )
 
 -- line one, and a refusal's
-pub first-most : (a b c d e : ℕ) → length (numbersLine a b c d e) ≤ 67
+pub first-most : (a b c d e : ℕ) → length (numbers_line a b c d e) ≤ 67
 first-most a b c d e = omega (arith, numbers-length a b c d e, digits-most 5 a, digits-most 5 b, digits-most 5 c, digits-most 5 d, digits-most 5 e)
 
 pub refusal-most : (number place : ℕ) → length (said "refused" number ++ said "" place ++ text "\n") ≤ 20

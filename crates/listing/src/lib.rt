@@ -1,19 +1,19 @@
 // The lister: the whole text that it prints for a sheet.
 ghost use Rattle.std.specs.Prelude.{◌≡◌, true, ◌≤◌, length, take};
-ghost use Rattle.meaning.specs.Sheet.{allPackets, heaviest, leastSlots};
-ghost use Rattle.meaning.specs.Plan.{slotsFrom, front};
-ghost use Rattle.meaning.specs.Answer.{isAccepted, sheetTest};
-ghost use Rattle.meaning.specs.Lister.{slotLines, numbersLine};
-ghost use Rattle.lines.specs.Line.{lineLength, lineIn};
-ghost use Rattle.listing.specs.Listed.{listedLength, listedIn};
+ghost use Rattle.meaning.specs.Sheet.{all_packets, heaviest, least_slots};
+ghost use Rattle.meaning.specs.Plan.{slots_from, front};
+ghost use Rattle.meaning.specs.Answer.{is_accepted, sheet_test};
+ghost use Rattle.meaning.specs.Lister.{slot_lines, numbers_line};
+ghost use Rattle.lines.specs.Line.{line_length, line_in};
+ghost use Rattle.listing.specs.Listed.{listed_length, listed_in};
 
 use meaning::Slot;
 
 // The lines of so many slots of a plan; says where they end.
 fn slot_lines(plan: &[u8], slots: u16, out: &mut [u8]) -> usize
-    requires { length (slotLines 0 (slotsFrom plan.now 2 slots)) ≤ length out.old }
-    ensures answer { result ≡ length (slotLines 0 (slotsFrom plan.now 2 slots)) }
-    ensures buffer { out.new ≡ front out.old (slotLines 0 (slotsFrom plan.now 2 slots)) }
+    requires { length (slot_lines 0 (slots_from plan.now 2 slots)) ≤ length out.old }
+    ensures answer { result ≡ length (slot_lines 0 (slots_from plan.now 2 slots)) }
+    ensures buffer { out.new ≡ front out.old (slot_lines 0 (slots_from plan.now 2 slots)) }
 {
     let mut place: usize = 2;
     let mut at: usize = 0;
@@ -29,11 +29,11 @@ fn slot_lines(plan: &[u8], slots: u16, out: &mut [u8]) -> usize
 
 // Line one of an accepted sheet.
 fn first(sheet: &[u8], colours: u8, slots: u16, out: &mut [u8]) -> usize
-    requires { isAccepted (sheetTest sheet.now) ≡ true }
+    requires { is_accepted (sheet_test sheet.now) ≡ true }
     ensures answer { result
-        ≡ lineLength out.old (numbersLine colours slots (allPackets sheet.now) (heaviest sheet.now) (leastSlots sheet.now)) }
+        ≡ line_length out.old (numbers_line colours slots (all_packets sheet.now) (heaviest sheet.now) (least_slots sheet.now)) }
     ensures buffer { out.new
-        ≡ lineIn out.old (numbersLine colours slots (allPackets sheet.now) (heaviest sheet.now) (leastSlots sheet.now)) }
+        ≡ line_in out.old (numbers_line colours slots (all_packets sheet.now) (heaviest sheet.now) (least_slots sheet.now)) }
 {
     let tree = sheet::read(sheet);
     let p = tree.probes;
@@ -48,8 +48,8 @@ fn first(sheet: &[u8], colours: u8, slots: u16, out: &mut [u8]) -> usize
 // The whole text for a sheet, at the start of a lent buffer that has room for any; says how many bytes it has.
 pub fn list(sheet: &[u8], out: &mut [u8]) -> usize
     ensures part { (result ≤ length out.new) × (result ≡ length (take result out.new)) }
-    ensures answer { result ≡ listedLength sheet.now out.old }
-    ensures buffer { out.new ≡ listedIn sheet.now out.old }
+    ensures answer { result ≡ listed_length sheet.now out.old }
+    ensures buffer { out.new ≡ listed_in sheet.now out.old }
 {
     if out.len() < meaning::ANY_TEXT {
         return 0;

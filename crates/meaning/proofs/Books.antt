@@ -6,16 +6,16 @@ use Prim.Native.String.{String}
 use lib.Dec.{T}
 use lib.ListN.{length, replicate}
 use Rattle.meaning.specs.declared.Booked.{Booked}
-use Rattle.meaning.specs.Words.{forEach, some, least, sum, most, tab, in_turn}
+use Rattle.meaning.specs.Words.{for_each, some, least, sum, most, tab, in_turn}
 use Rattle.meaning.specs.Yard.{reaches, climb, climbed}
-use Rattle.meaning.specs.Sheet.{parent_of, packetsOf, levelOf, interfere}
-use Rattle.meaning.specs.Plan.{slotsFrom, front}
-use Rattle.meaning.specs.Conflict.{disturb, conflict, conflictTable}
+use Rattle.meaning.specs.Sheet.{parent_of, packets_of, level_of, interfere}
+use Rattle.meaning.specs.Plan.{slots_from, front}
+use Rattle.meaning.specs.Conflict.{disturb, conflict, conflict_table}
 use Rattle.meaning.specs.Rounds.{moved}
-use Rattle.meaning.specs.Answer.{◌then◌, inOrder, probeTest, walkTest, pairTest, countsTest, sheetTest}
-use Rattle.meaning.specs.Judge.{slotTest, twoNames, slotNames, slotJudged, slotsJudged, planJudgedBy, planJudged, judgeIn, planNamesBy, planNames, judgementIn}
-use Rattle.meaning.specs.Lister.{text, decimal, sendersText}
-use Rattle.meaning.specs.Book.{slotsWhere, twoEach, wakeBook, bookMade, listAt, behindList, entry_at, wakeLine}
+use Rattle.meaning.specs.Answer.{◌then◌, in_order, probe_test, walk_test, pair_test, counts_test, sheet_test}
+use Rattle.meaning.specs.Judge.{slot_test, two_names, slot_names, slot_judged, slots_judged, plan_judged_by, plan_judged, judge_in, plan_names_by, plan_names, judgement_in}
+use Rattle.meaning.specs.Lister.{text, decimal, senders_text}
+use Rattle.meaning.specs.Book.{slots_where, two_each, wake_book, book_made, list_at, behind_list, entry_at, wake_line}
 use Rattle.meaning.proofs.RowBytes.{digit, pairs, hex, many, same}
 
 -- A row of a book gives a sheet, a plan and the length of the buffer lent, whose bytes are all `ee`; then number, place, both names and bytes written; then the whole buffer
@@ -26,14 +26,14 @@ pub data Row : Type 0 where
   line : ℕ → List ℕ → List ℕ → String → Row
 
 made : List ℕ → List ℕ → ℕ → List ℕ
-made s plan lent = let book = bookMade s plan lent in numbers book.answer ++ front (replicate lent 0xee) book.written
+made s plan lent = let book = book_made s plan lent in numbers book.answer ++ front (replicate lent 0xee) book.written
   where
     numbers : Booked → List ℕ
     numbers r = r.outcome.number ∷ r.outcome.place ∷ r.names.first ∷ r.names.second ∷ r.bytes ∷ []
 
 pub true-row : Row → Bool
 true-row (booked sheet plan lent numbers after) = same (made (hex sheet) (hex plan) lent) (numbers ++ hex after)
-true-row (entry_read book k numbers) = same (at ∷ read at ++ read (behindList bytes at)) numbers
+true-row (entry_read book k numbers) = same (at ∷ read at ++ read (behind_list bytes at)) numbers
   where
     bytes : List ℕ
     bytes = hex book
@@ -42,8 +42,8 @@ true-row (entry_read book k numbers) = same (at ∷ read at ++ read (behindList 
     at = entry_at bytes k
 
     read : ℕ → List ℕ
-    read from = length (listAt bytes from) ∷ listAt bytes from
-true-row (line v sends hears printed) = same (wakeLine v sends hears) (text printed)
+    read from = length (list_at bytes from) ∷ list_at bytes from
+true-row (line v sends hears printed) = same (wake_line v sends hears) (text printed)
 
 pub all_true : List Row → Bool
 all_true [] = true
@@ -91,8 +91,8 @@ books =
 -- the one claim: every row is true
 pub proved-books : T (all_true books)
 unfolding digit pairs hex many same made true-row all_true A A-plan A-book books
-    forEach some least sum most tab in_turn reaches climb climbed parent_of packetsOf levelOf interfere slotsFrom disturb conflict conflictTable moved
-    ◌then◌ inOrder probeTest walkTest pairTest countsTest sheetTest
-    slotTest twoNames slotNames slotJudged slotsJudged planJudgedBy planJudged judgeIn planNamesBy planNames judgementIn
-    text decimal sendersText slotsWhere twoEach wakeBook bookMade entry_at wakeLine
+    for_each some least sum most tab in_turn reaches climb climbed parent_of packets_of level_of interfere slots_from disturb conflict conflict_table moved
+    ◌then◌ in_order probe_test walk_test pair_test counts_test sheet_test
+    slot_test two_names slot_names slot_judged slots_judged plan_judged_by plan_judged judge_in plan_names_by plan_names judgement_in
+    text decimal senders_text slots_where two_each wake_book book_made entry_at wake_line
 proved-books = tt

@@ -7,15 +7,15 @@ use lib.Dec.{T, eqb}
 use lib.ListN.{length, take, drop}
 use Rattle.meaning.specs.declared.Mode.TheVariants.{Merged, Packets}
 use Rattle.meaning.specs.declared.Outcome.{Outcome}
-use Rattle.meaning.specs.Words.{forEach, some, sum, most, tab, probesThat}
+use Rattle.meaning.specs.Words.{for_each, some, sum, most, tab, probes_that}
 use Rattle.meaning.specs.Yard.{reaches, climb, climbed}
-use Rattle.meaning.specs.Sheet.{probeCount, channels, parent_of, packetsOf, levelOf, hops, interfere}
-use Rattle.meaning.specs.Order.{next_of, leastAt}
-use Rattle.meaning.specs.Channel.{leastLoaded, listenersBy, listeners}
-use Rattle.meaning.specs.Conflict.{disturb, disturbOn, conflict, conflictTable}
-use Rattle.meaning.specs.Colour.{smallestFree, colouredBy, probeColours, levelsConflict, levels, depth, levelColours}
-use Rattle.meaning.specs.Rounds.{ready, joined, ownersByProbe, ownersByLevel, slot_of, turn_of, moved, heldAfter, recorded, round, rounds, byProbe, byLevel, merged, slotsIn}
-use Rattle.meaning.specs.Answer.{◌then◌, inOrder, probeTest, walkTest, pairTest, countsTest, sheetTest}
+use Rattle.meaning.specs.Sheet.{probe_count, channels, parent_of, packets_of, level_of, hops, interfere}
+use Rattle.meaning.specs.Order.{next_of, least_at}
+use Rattle.meaning.specs.Channel.{least_loaded, listeners_by, listeners}
+use Rattle.meaning.specs.Conflict.{disturb, disturb_on, conflict, conflict_table}
+use Rattle.meaning.specs.Colour.{smallest_free, coloured_by, probe_colours, levels_conflict, levels, depth, level_colours}
+use Rattle.meaning.specs.Rounds.{ready, joined, owners_by_probe, owners_by_level, slot_of, turn_of, moved, held_after, recorded, round, rounds, by_probe, by_level, merged, slots_in}
+use Rattle.meaning.specs.Answer.{◌then◌, in_order, probe_test, walk_test, pair_test, counts_test, sheet_test}
 use Rattle.meaning.specs.Lister.{text}
 use Rattle.meaning.proofs.RowBytes.{digit, pairs, hex, many, same}
 
@@ -41,15 +41,15 @@ says (row ∷ rows) [] = same (up 0 row) [] && says rows []
 says (row ∷ rows) (places ∷ more) = same (up 0 row) places && says rows more
 
 pub true-row : Row → Bool
-true-row (tested sheet number place) = gives (sheetTest (hex sheet))
+true-row (tested sheet number place) = gives (sheet_test (hex sheet))
   where
     gives : Outcome → Bool
     gives outcome = eqb outcome.number number && eqb outcome.place place
-true-row (listening sheet channels) = let s = hex sheet in same (take (probeCount s + 1) (drop 1 (listeners s))) channels
-true-row (conflicts sheet rows) = says (conflictTable (hex sheet)) ([] ∷ [] ∷ rows)
+true-row (listening sheet channels) = let s = hex sheet in same (take (probe_count s + 1) (drop 1 (listeners s))) channels
+true-row (conflicts sheet rows) = says (conflict_table (hex sheet)) ([] ∷ [] ∷ rows)
 true-row (slots sheet numbers) =
     let s = hex sheet in
-    same (length (slotsIn Packets s (byProbe s)) ∷ length (slotsIn Packets s (byLevel s)) ∷ length (slotsIn Merged s (merged s)) ∷ []) numbers
+    same (length (slots_in Packets s (by_probe s)) ∷ length (slots_in Packets s (by_level s)) ∷ length (slots_in Merged s (merged s)) ∷ []) numbers
 
 pub all_true : List Row → Bool
 all_true [] = true
@@ -97,9 +97,9 @@ channel-yards =
 -- the one claim: every row is true
 pub proved-channel-yards : T (all_true channel-yards)
 unfolding digit pairs hex many same up says true-row all_true channel-yards
-    forEach some sum most tab probesThat reaches climb climbed parent_of packetsOf levelOf hops interfere
-    channels next_of leastAt leastLoaded listenersBy listeners disturb disturbOn conflict conflictTable
-    smallestFree colouredBy probeColours levelsConflict levels depth levelColours
-    ready joined ownersByProbe ownersByLevel slot_of turn_of moved heldAfter recorded round rounds byProbe byLevel merged slotsIn
-    ◌then◌ inOrder probeTest walkTest pairTest countsTest sheetTest text
+    for_each some sum most tab probes_that reaches climb climbed parent_of packets_of level_of hops interfere
+    channels next_of least_at least_loaded listeners_by listeners disturb disturb_on conflict conflict_table
+    smallest_free coloured_by probe_colours levels_conflict levels depth level_colours
+    ready joined owners_by_probe owners_by_level slot_of turn_of moved held_after recorded round rounds by_probe by_level merged slots_in
+    ◌then◌ in_order probe_test walk_test pair_test counts_test sheet_test text
 proved-channel-yards = tt

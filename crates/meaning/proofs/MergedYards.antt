@@ -9,17 +9,17 @@ use Rattle.meaning.specs.declared.Mode.TheVariants.{Merged}
 use Rattle.meaning.specs.declared.Planned.{Planned}
 use Rattle.meaning.specs.declared.Judgement.{Judgement}
 use Rattle.meaning.specs.declared.MergedTold.{MergedTold}
-use Rattle.meaning.specs.Words.{forEach, some, least, sum, most, tab, probesThat}
+use Rattle.meaning.specs.Words.{for_each, some, least, sum, most, tab, probes_that}
 use Rattle.meaning.specs.Yard.{reaches, climb, climbed}
-use Rattle.meaning.specs.Sheet.{parent_of, packetsOf, levelOf, hops, interfere}
-use Rattle.meaning.specs.Plan.{slotBytes, front}
-use Rattle.meaning.specs.Conflict.{disturb, conflict, conflictTable}
-use Rattle.meaning.specs.Colour.{smallestFree, next_of, colouredBy, probeColours, depth}
-use Rattle.meaning.specs.Rounds.{ready, joined, ownersByProbe, slot_of, turn_of, moved, heldAfter, recorded, round, rounds, merged, slotsIn}
-use Rattle.meaning.specs.Answer.{◌then◌, inOrder, probeTest, walkTest, pairTest, countsTest, sheetTest, planTestIn, planMadeIn, mergedMade}
-use Rattle.meaning.specs.Judge.{slotTest, twoNames, slotNames, slotJudged, slotsJudged, planJudgedBy, planJudged, judgeIn, planNamesBy, planNames, judgementIn}
+use Rattle.meaning.specs.Sheet.{parent_of, packets_of, level_of, hops, interfere}
+use Rattle.meaning.specs.Plan.{slot_bytes, front}
+use Rattle.meaning.specs.Conflict.{disturb, conflict, conflict_table}
+use Rattle.meaning.specs.Colour.{smallest_free, next_of, coloured_by, probe_colours, depth}
+use Rattle.meaning.specs.Rounds.{ready, joined, owners_by_probe, slot_of, turn_of, moved, held_after, recorded, round, rounds, merged, slots_in}
+use Rattle.meaning.specs.Answer.{◌then◌, in_order, probe_test, walk_test, pair_test, counts_test, sheet_test, plan_test_in, plan_made_in, merged_made}
+use Rattle.meaning.specs.Judge.{slot_test, two_names, slot_names, slot_judged, slots_judged, plan_judged_by, plan_judged, judge_in, plan_names_by, plan_names, judgement_in}
 use Rattle.meaning.specs.Lister.{text}
-use Rattle.meaning.specs.Merged.{mergedAsked}
+use Rattle.meaning.specs.Merged.{merged_asked}
 use Rattle.meaning.proofs.RowBytes.{digit, pairs, hex, many, same}
 
 -- A planner's row gives a sheet and the length of the buffer lent, whose bytes are all `ee`; then number, place, colours, slots and bytes written; then the whole buffer
@@ -28,10 +28,10 @@ use Rattle.meaning.proofs.RowBytes.{digit, pairs, hex, many, same}
 pub data Row : Type 0 where
   planned : String → ℕ → List ℕ → String → Row
   judged : String → String → List ℕ → Row
-  asked-for : String → List ℕ → Row
+  asked_for : String → List ℕ → Row
 
 plan-made : List ℕ → ℕ → List ℕ
-plan-made s lent = let made = mergedMade s lent in numbers made.answer ++ front (replicate lent 0xee) made.written
+plan-made s lent = let made = merged_made s lent in numbers made.answer ++ front (replicate lent 0xee) made.written
   where
     numbers : Planned → List ℕ
     numbers r = r.outcome.number ∷ r.outcome.place ∷ r.colours ∷ r.slots ∷ r.bytes ∷ []
@@ -44,8 +44,8 @@ told r = r.outcome.number ∷ r.outcome.place ∷ r.least ∷ r.ours ∷ r.most 
 
 pub true-row : Row → Bool
 true-row (planned sheet lent numbers after) = same (plan-made (hex sheet) lent) (numbers ++ hex after)
-true-row (judged sheet plan numbers) = same (verdict (judgementIn Merged (hex sheet) (hex plan))) numbers
-true-row (asked-for sheet numbers) = same (told (mergedAsked (hex sheet))) numbers
+true-row (judged sheet plan numbers) = same (verdict (judgement_in Merged (hex sheet) (hex plan))) numbers
+true-row (asked_for sheet numbers) = same (told (merged_asked (hex sheet))) numbers
 
 pub all_true : List Row → Bool
 all_true [] = true
@@ -100,20 +100,20 @@ merged-yards =
     ∷ judged "01 01 00 00 00" "00 01 01 02" (0 ∷ 0 ∷ 1 ∷ 0 ∷ 0 ∷ [])
     ∷ judged "00 00 00" "00 00" (0 ∷ 0 ∷ 0 ∷ 0 ∷ 0 ∷ [])
     -- the telephone: at most a slot a probe, or, of the arms, colours times depth; ours comes down to at least, and in a star up to at most
-    ∷ asked-for "00 00 00" (0 ∷ 0 ∷ 0 ∷ 0 ∷ 0 ∷ [])
-    ∷ asked-for "01 01 00 00 00" (0 ∷ 0 ∷ 1 ∷ 1 ∷ 1 ∷ [])
-    ∷ asked-for A (0 ∷ 0 ∷ 2 ∷ 2 ∷ 3 ∷ [])
-    ∷ asked-for arms (0 ∷ 0 ∷ 2 ∷ 5 ∷ 6 ∷ [])
-    ∷ asked-for "04 01 00 01 01 01 00 01 0f 00 00" (0 ∷ 0 ∷ 1 ∷ 4 ∷ 4 ∷ [])
-    ∷ asked-for "02 03 01 02 01 00 00" (6 ∷ 2 ∷ 0 ∷ 0 ∷ 0 ∷ [])
+    ∷ asked_for "00 00 00" (0 ∷ 0 ∷ 0 ∷ 0 ∷ 0 ∷ [])
+    ∷ asked_for "01 01 00 00 00" (0 ∷ 0 ∷ 1 ∷ 1 ∷ 1 ∷ [])
+    ∷ asked_for A (0 ∷ 0 ∷ 2 ∷ 2 ∷ 3 ∷ [])
+    ∷ asked_for arms (0 ∷ 0 ∷ 2 ∷ 5 ∷ 6 ∷ [])
+    ∷ asked_for "04 01 00 01 01 01 00 01 0f 00 00" (0 ∷ 0 ∷ 1 ∷ 4 ∷ 4 ∷ [])
+    ∷ asked_for "02 03 01 02 01 00 00" (6 ∷ 2 ∷ 0 ∷ 0 ∷ 0 ∷ [])
     ∷ []
 
 -- the one claim: every row is true
 pub proved-merged-yards : T (all_true merged-yards)
 unfolding digit pairs hex many same plan-made verdict told true-row all_true A arms merged-yards
-    forEach some least sum most tab probesThat reaches climb climbed parent_of packetsOf levelOf hops interfere slotBytes
-    disturb conflict conflictTable smallestFree next_of colouredBy probeColours depth
-    ready joined ownersByProbe slot_of turn_of moved heldAfter recorded round rounds merged slotsIn
-    ◌then◌ inOrder probeTest walkTest pairTest countsTest sheetTest planTestIn planMadeIn
-    slotTest twoNames slotNames slotJudged slotsJudged planJudgedBy planJudged judgeIn planNamesBy planNames judgementIn text mergedAsked
+    for_each some least sum most tab probes_that reaches climb climbed parent_of packets_of level_of hops interfere slot_bytes
+    disturb conflict conflict_table smallest_free next_of coloured_by probe_colours depth
+    ready joined owners_by_probe slot_of turn_of moved held_after recorded round rounds merged slots_in
+    ◌then◌ in_order probe_test walk_test pair_test counts_test sheet_test plan_test_in plan_made_in
+    slot_test two_names slot_names slot_judged slots_judged plan_judged_by plan_judged judge_in plan_names_by plan_names judgement_in text merged_asked
 proved-merged-yards = tt

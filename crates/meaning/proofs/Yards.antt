@@ -15,23 +15,23 @@ use Rattle.meaning.specs.declared.Verdict.{Verdict}
 use Rattle.meaning.specs.declared.Names.{Names}
 use Rattle.meaning.specs.declared.Tested.{Tested}
 use Rattle.meaning.specs.declared.Judgement.{Judgement}
-use Rattle.meaning.specs.Words.{Bytes, forEach, some, least, sum, most, tab, places, probesThat}
-use Rattle.meaning.specs.Yard.{reaches, climb, climbed, lagOn}
-use Rattle.meaning.specs.Sheet.{twoAt, probeCount, parent_of, packetsOf, levelOf, hops, allPackets, heaviest, longest, slowest, leastSlots, interfere}
-use Rattle.meaning.specs.Plan.{twoBytes, slotBytes, slotsFrom, room_for, front}
-use Rattle.meaning.specs.Conflict.{disturb, conflict, table_of, entry, conflictTable, largestDegree}
-use Rattle.meaning.specs.Colour.{smallestFree, next_of, colouredBy, probeColours, levelsConflict, levels, depth, levelColours}
-use Rattle.meaning.specs.Rounds.{Way, joined, ownersByProbe, ownersByLevel, slot_of, turn_of, moved, heldAfter, recorded, round, rounds, byProbe, byLevel, slotsIn}
-use Rattle.meaning.specs.Answer.{accepted, ◌then◌, inOrder, probeTest, walkTest, pairTest, countsTest, sheetTest, planTestIn, planMadeIn, planMade}
-use Rattle.meaning.specs.Judge.{Judging, slotTest, twoNames, slotNames, slotTested, slotJudged, slotsJudged, planJudgedBy, planJudged}
-use Rattle.meaning.specs.Judge.{judgeIn, judge, planNamesBy, planNames, judgementIn, judgement, choice, handedBack}
-use Rattle.meaning.specs.Lister.{text, decimal, numbersLine, sendersText, refusalLine, slotLine, slotLines, list, listing}
-use Rattle.meaning.specs.Telephone.{timesAny, asked}
+use Rattle.meaning.specs.Words.{Bytes, for_each, some, least, sum, most, tab, places, probes_that}
+use Rattle.meaning.specs.Yard.{reaches, climb, climbed, lag_on}
+use Rattle.meaning.specs.Sheet.{two_at, probe_count, parent_of, packets_of, level_of, hops, all_packets, heaviest, longest, slowest, least_slots, interfere}
+use Rattle.meaning.specs.Plan.{two_bytes, slot_bytes, slots_from, room_for, front}
+use Rattle.meaning.specs.Conflict.{disturb, conflict, table_of, entry, conflict_table, largest_degree}
+use Rattle.meaning.specs.Colour.{smallest_free, next_of, coloured_by, probe_colours, levels_conflict, levels, depth, level_colours}
+use Rattle.meaning.specs.Rounds.{Way, joined, owners_by_probe, owners_by_level, slot_of, turn_of, moved, held_after, recorded, round, rounds, by_probe, by_level, slots_in}
+use Rattle.meaning.specs.Answer.{accepted, ◌then◌, in_order, probe_test, walk_test, pair_test, counts_test, sheet_test, plan_test_in, plan_made_in, plan_made}
+use Rattle.meaning.specs.Judge.{Judging, slot_test, two_names, slot_names, slot_tested, slot_judged, slots_judged, plan_judged_by, plan_judged}
+use Rattle.meaning.specs.Judge.{judge_in, judge, plan_names_by, plan_names, judgement_in, judgement, choice, handed_back}
+use Rattle.meaning.specs.Lister.{text, decimal, numbers_line, senders_text, refusal_line, slot_line, slot_lines, list, listing}
+use Rattle.meaning.specs.Telephone.{times_any, asked}
 use Rattle.meaning.proofs.RowBytes.{digit, pairs, hex, many, same}
 
 -- what a row says of the sheet that it begins with. `tested` gives number and place. `conflicts` gives for each probe those that it conflicts
--- with, `level-conflicts` the same of levels. A planner's row gives the length of the buffer lent, whose bytes are all `ee`; then number, place, colours, slots and bytes written; then
--- the whole buffer afterwards. A judge's row gives the plan; then number, place and slots; `named` gives both names too; `slot-tested` gives the senders of
+-- with, `level_conflicts` the same of levels. A planner's row gives the length of the buffer lent, whose bytes are all `ee`; then number, place, colours, slots and bytes written; then
+-- the whole buffer afterwards. A judge's row gives the plan; then number, place and slots; `named` gives both names too; `slot_tested` gives the senders of
 -- slot 7, sent first; then number, place and both names; `holding` gives a plan, and what the nodes from 0 on hold after its slots. A row of branches gives the
 -- heaviest, the longest and the slowest; then come the fewest slots of any plan and the largest degree; the telephone's number and place, then the slots at least, in our plan, and at
 -- most, and how many times anybody's ours is; the last also of colours, our slots and the fewest. A plan's slots, a count's bytes, and a number's and a slot's text stand by themselves
@@ -39,31 +39,31 @@ pub data Row : Type 0 where
   tested : String → ℕ → ℕ → Row
   room : String → ℕ → Row
   conflicts : String → List (List ℕ) → Row
-  probe-colours : String → List ℕ → Row
-  level-conflicts : String → List (List ℕ) → Row
-  level-colours : String → List ℕ → Row
-  plan-by-probe : String → ℕ → List ℕ → String → Row
-  plan-by-level : String → ℕ → List ℕ → String → Row
+  probe_colours : String → List ℕ → Row
+  level_conflicts : String → List (List ℕ) → Row
+  level_colours : String → List ℕ → Row
+  plan_by_probe : String → ℕ → List ℕ → String → Row
+  plan_by_level : String → ℕ → List ℕ → String → Row
   judged : String → String → List ℕ → Row
   named : String → String → List ℕ → Row
-  slot-tested : String → List ℕ → List ℕ → Row
+  slot_tested : String → List ℕ → List ℕ → Row
   holding : String → String → List ℕ → Row
   chosen : String → String → String → String → Row
   listed : String → String → Row
   branches : String → List ℕ → Row
-  how-often : ℕ → ℕ → ℕ → ℕ → Row
+  how_often : ℕ → ℕ → ℕ → ℕ → Row
   fewest : String → ℕ → Row
-  most-conflicts : String → ℕ → Row
-  asked-for : String → List ℕ → Row
-  count-bytes : ℕ → String → Row
+  most_conflicts : String → ℕ → Row
+  asked_for : String → List ℕ → Row
+  count_bytes : ℕ → String → Row
   slots_read : String → List (List ℕ) → Row
-  number-text : ℕ → String → Row
-  refusal-text : ℕ → ℕ → String → Row
-  numbers-text : ℕ → ℕ → ℕ → ℕ → ℕ → String → Row
-  slot-text : ℕ → List ℕ → String → Row
+  number_text : ℕ → String → Row
+  refusal_text : ℕ → ℕ → String → Row
+  numbers_text : ℕ → ℕ → ℕ → ℕ → ℕ → String → Row
+  slot_text : ℕ → List ℕ → String → Row
 
 planner : (Bytes → Way) → Bytes → ℕ → Bytes
-planner by s lent = let made = planMade by s lent in numbers made.answer ++ front (replicate lent 0xee) made.written
+planner by s lent = let made = plan_made by s lent in numbers made.answer ++ front (replicate lent 0xee) made.written
   where
     numbers : Planned → List ℕ
     numbers r = r.outcome.number ∷ r.outcome.place ∷ r.colours ∷ r.slots ∷ r.bytes ∷ []
@@ -98,34 +98,34 @@ says (row ∷ rows) (places ∷ more) = same (up 0 row) places && says rows more
 
 -- the definitions answer what the row says
 pub true-row : Row → Bool
-true-row (tested sheet number place) = gives (sheetTest (hex sheet))
+true-row (tested sheet number place) = gives (sheet_test (hex sheet))
   where
     gives : Outcome → Bool
     gives outcome = eqb outcome.number number && eqb outcome.place place
 true-row (room sheet bytes) = eqb (room_for (hops (hex sheet))) bytes
-true-row (conflicts sheet rows) = says (conflictTable (hex sheet)) ([] ∷ [] ∷ rows)
-true-row (probe-colours sheet colours) = same (take (probeCount (hex sheet)) (drop 2 (probeColours (hex sheet)))) colours
-true-row (level-conflicts sheet rows) = says (table_of (levelsConflict (probeCount s) (levelOf s) (entry (conflictTable s)))) ([] ∷ rows)
+true-row (conflicts sheet rows) = says (conflict_table (hex sheet)) ([] ∷ [] ∷ rows)
+true-row (probe_colours sheet colours) = same (take (probe_count (hex sheet)) (drop 2 (probe_colours (hex sheet)))) colours
+true-row (level_conflicts sheet rows) = says (table_of (levels_conflict (probe_count s) (level_of s) (entry (conflict_table s)))) ([] ∷ rows)
   where
     s : List ℕ
     s = hex sheet
-true-row (level-colours sheet colours) = same (take (depth (hex sheet)) (drop 1 (levelColours (hex sheet)))) colours
-true-row (plan-by-probe sheet lent numbers after) = same (planner byProbe (hex sheet) lent) (numbers ++ hex after)
-true-row (plan-by-level sheet lent numbers after) = same (planner byLevel (hex sheet) lent) (numbers ++ hex after)
+true-row (level_colours sheet colours) = same (take (depth (hex sheet)) (drop 1 (level_colours (hex sheet)))) colours
+true-row (plan_by_probe sheet lent numbers after) = same (planner by_probe (hex sheet) lent) (numbers ++ hex after)
+true-row (plan_by_level sheet lent numbers after) = same (planner by_level (hex sheet) lent) (numbers ++ hex after)
 true-row (judged sheet plan numbers) = same (verdict (judge (hex sheet) (hex plan))) numbers
 true-row (named sheet plan numbers) = same (answered (judgement (hex sheet) (hex plan))) numbers
   where
     answered : Judgement → List ℕ
     answered r = verdict r.verdict ++ names r.names
-true-row (slot-tested sheet slot numbers) =
-    same (answered (slotTested (probeCount s) (entry (conflictTable s)) (tab places (packetsOf s)) 7 slot)) numbers
+true-row (slot_tested sheet slot numbers) =
+    same (answered (slot_tested (probe_count s) (entry (conflict_table s)) (tab places (packets_of s)) 7 slot)) numbers
   where
     s : List ℕ
     s = hex sheet
 
     answered : Tested → List ℕ
     answered r = r.outcome.number ∷ r.outcome.place ∷ names r.names
-true-row (holding sheet plan packets) = same (take (probeCount s + 2) (slotsJudged Packets (probeCount s) (parent_of s) (entry (conflictTable s)) bytes (twoAt bytes 0) start).held) packets
+true-row (holding sheet plan packets) = same (take (probe_count s + 2) (slots_judged Packets (probe_count s) (parent_of s) (entry (conflict_table s)) bytes (two_at bytes 0) start).held) packets
   where
     s : List ℕ
     s = hex sheet
@@ -134,20 +134,20 @@ true-row (holding sheet plan packets) = same (take (probeCount s + 2) (slotsJudg
     bytes = hex plan
 
     start : Judging
-    start = record { outcome = accepted; at = 2; held = tab places (packetsOf s) }
-true-row (chosen sheet a b handed) = same (handedBack (choice (hex sheet) (hex a) (hex b)) (hex a) (hex b)) (hex handed)
+    start = record { outcome = accepted; at = 2; held = tab places (packets_of s) }
+true-row (chosen sheet a b handed) = same (handed_back (choice (hex sheet) (hex a) (hex b)) (hex a) (hex b)) (hex handed)
 true-row (listed sheet printed) = same (listing (hex sheet)) (text printed)
 true-row (branches sheet numbers) = same (heaviest (hex sheet) ∷ longest (hex sheet) ∷ slowest (hex sheet) ∷ []) numbers
-true-row (how-often colours ours least-slots times) = eqb (timesAny colours ours least-slots) times
-true-row (fewest sheet slots) = eqb (leastSlots (hex sheet)) slots
-true-row (most-conflicts sheet probes) = eqb (largestDegree (hex sheet)) probes
-true-row (asked-for sheet numbers) = same (told (asked (hex sheet))) numbers
-true-row (count-bytes number written) = same (twoBytes number) (hex written)
-true-row (slots_read plan slots) = alike (slotsFrom (hex plan) 2 (twoAt (hex plan) 0)) slots
-true-row (number-text number printed) = same (decimal 5 number) (text printed)
-true-row (refusal-text number place printed) = same (refusalLine (record { number = number; place = place })) (text printed)
-true-row (numbers-text colours slots packets most least-slots printed) = same (numbersLine colours slots packets most least-slots) (text printed)
-true-row (slot-text number slot printed) = same (slotLine number slot) (text printed)
+true-row (how_often colours ours least-slots times) = eqb (times_any colours ours least-slots) times
+true-row (fewest sheet slots) = eqb (least_slots (hex sheet)) slots
+true-row (most_conflicts sheet probes) = eqb (largest_degree (hex sheet)) probes
+true-row (asked_for sheet numbers) = same (told (asked (hex sheet))) numbers
+true-row (count_bytes number written) = same (two_bytes number) (hex written)
+true-row (slots_read plan slots) = alike (slots_from (hex plan) 2 (two_at (hex plan) 0)) slots
+true-row (number_text number printed) = same (decimal 5 number) (text printed)
+true-row (refusal_text number place printed) = same (refusal_line (record { number = number; place = place })) (text printed)
+true-row (numbers_text colours slots packets most least-slots printed) = same (numbers_line colours slots packets most least-slots) (text printed)
+true-row (slot_text number slot printed) = same (slot_line number slot) (text printed)
 
 pub all_true : List Row → Bool
 all_true [] = true
@@ -266,17 +266,17 @@ yards =
     ∷ conflicts (arms "00 01 05 06") ((3 ∷ 4 ∷ 5 ∷ []) ∷ (2 ∷ 4 ∷ 6 ∷ []) ∷ (2 ∷ 3 ∷ 7 ∷ []) ∷ (2 ∷ []) ∷ (3 ∷ []) ∷ (4 ∷ []) ∷ [])
     ∷ conflicts "03 01 01 02 01 01 01 00 02 01 02 02 03" ((3 ∷ 4 ∷ []) ∷ (2 ∷ []) ∷ (2 ∷ []) ∷ [])
     -- levels conflict where some of their probes do, and never with themselves
-    ∷ level-conflicts five ((2 ∷ 3 ∷ []) ∷ (1 ∷ 3 ∷ 4 ∷ []) ∷ (1 ∷ 2 ∷ 4 ∷ 5 ∷ []) ∷ (2 ∷ 3 ∷ 5 ∷ []) ∷ (3 ∷ 4 ∷ []) ∷ [])
-    ∷ level-conflicts (star 4 "04 " "00 00") []
+    ∷ level_conflicts five ((2 ∷ 3 ∷ []) ∷ (1 ∷ 3 ∷ 4 ∷ []) ∷ (1 ∷ 2 ∷ 4 ∷ 5 ∷ []) ∷ (2 ∷ 3 ∷ 5 ∷ []) ∷ (3 ∷ 4 ∷ []) ∷ [])
+    ∷ level_conflicts (star 4 "04 " "00 00") []
     -- room: packets times level
     ∷ room "00 00 00" 2
     ∷ room "02 01 02 02 03 00 00" 18
     ∷ room mixed 52
     -- a count of slots, high byte first
     ∷ slots_read "00 02 02 02 03 01 04" ((2 ∷ 3 ∷ []) ∷ (4 ∷ []) ∷ [])
-    ∷ count-bytes 255 "00 ff"
-    ∷ count-bytes 256 "01 00"
-    ∷ count-bytes 30240 "76 20"
+    ∷ count_bytes 255 "00 ff"
+    ∷ count_bytes 256 "01 00"
+    ∷ count_bytes 30240 "76 20"
     -- the judge takes the sheet first; 11 in the count has place 0, else the slot's; 11 before 12
     ∷ judged ring "" (6 ∷ 2 ∷ 0 ∷ [])
     ∷ judged A "" (11 ∷ 0 ∷ 0 ∷ [])
@@ -328,11 +328,11 @@ yards =
     ∷ named A "00 01 01 02" (17 ∷ 1 ∷ 0 ∷ 0 ∷ 0 ∷ [])
     ∷ named A "00 03 01 02 02 03 04 01 02" (0 ∷ 0 ∷ 3 ∷ 0 ∷ 0 ∷ [])
     -- a slot's test by itself
-    ∷ slot-tested A (3 ∷ 200 ∷ []) (12 ∷ 7 ∷ 200 ∷ 0 ∷ [])
-    ∷ slot-tested A (4 ∷ 3 ∷ []) (13 ∷ 7 ∷ 3 ∷ 0 ∷ [])
-    ∷ slot-tested below-relays (2 ∷ []) (14 ∷ 7 ∷ 2 ∷ 0 ∷ [])
-    ∷ slot-tested A (2 ∷ 3 ∷ []) (15 ∷ 7 ∷ 2 ∷ 3 ∷ [])
-    ∷ slot-tested A (3 ∷ 4 ∷ []) (0 ∷ 0 ∷ 0 ∷ 0 ∷ [])
+    ∷ slot_tested A (3 ∷ 200 ∷ []) (12 ∷ 7 ∷ 200 ∷ 0 ∷ [])
+    ∷ slot_tested A (4 ∷ 3 ∷ []) (13 ∷ 7 ∷ 3 ∷ 0 ∷ [])
+    ∷ slot_tested below-relays (2 ∷ []) (14 ∷ 7 ∷ 2 ∷ 0 ∷ [])
+    ∷ slot_tested A (2 ∷ 3 ∷ []) (15 ∷ 7 ∷ 2 ∷ 3 ∷ [])
+    ∷ slot_tested A (3 ∷ 4 ∷ []) (0 ∷ 0 ∷ 0 ∷ 0 ∷ [])
     -- 16: a byte behind the last slot, its place the slot count; before 17
     ∷ judged A "00 00 00" (16 ∷ 0 ∷ 0 ∷ [])
     ∷ judged A "00 03 01 02 02 03 04 01 02 00" (16 ∷ 3 ∷ 0 ∷ [])
@@ -355,54 +355,54 @@ yards =
     ∷ chosen A "00 01 02 02 04" "00" ""
     ∷ chosen ring "00 00" "00 00" ""
     -- a number, and each kind of line that the lister prints
-    ∷ number-text 0 "0"
-    ∷ number-text 9 "9"
-    ∷ number-text 10 "10"
-    ∷ number-text 99 "99"
-    ∷ number-text 100 "100"
-    ∷ number-text 30240 "30240"
-    ∷ number-text 65535 "65535"
-    ∷ refusal-text 8 2016 "refused 8 2016\n"
-    ∷ numbers-text 63 30240 945 105 1875 "colours 63 slots 30240 packets 945 heaviest 105 least 1875\n"
-    ∷ slot-text 120 (9 ∷ 10 ∷ 64 ∷ []) "120: 9 10 64\n"
+    ∷ number_text 0 "0"
+    ∷ number_text 9 "9"
+    ∷ number_text 10 "10"
+    ∷ number_text 99 "99"
+    ∷ number_text 100 "100"
+    ∷ number_text 30240 "30240"
+    ∷ number_text 65535 "65535"
+    ∷ refusal_text 8 2016 "refused 8 2016\n"
+    ∷ numbers_text 63 30240 945 105 1875 "colours 63 slots 30240 packets 945 heaviest 105 least 1875\n"
+    ∷ slot_text 120 (9 ∷ 10 ∷ 64 ∷ []) "120: 9 10 64\n"
     -- colours by probe: falling degree, ties by lower number, the smallest that is free
-    ∷ probe-colours A (1 ∷ 2 ∷ 2 ∷ [])
-    ∷ probe-colours A-with-a-pair (1 ∷ 2 ∷ 3 ∷ [])
-    ∷ probe-colours chain (1 ∷ 2 ∷ 3 ∷ [])
-    ∷ probe-colours five (3 ∷ 2 ∷ 1 ∷ 3 ∷ 2 ∷ [])
-    ∷ probe-colours (star 4 "04 " "00 00") (1 ∷ 2 ∷ 3 ∷ 4 ∷ [])
+    ∷ probe_colours A (1 ∷ 2 ∷ 2 ∷ [])
+    ∷ probe_colours A-with-a-pair (1 ∷ 2 ∷ 3 ∷ [])
+    ∷ probe_colours chain (1 ∷ 2 ∷ 3 ∷ [])
+    ∷ probe_colours five (3 ∷ 2 ∷ 1 ∷ 3 ∷ 2 ∷ [])
+    ∷ probe_colours (star 4 "04 " "00 00") (1 ∷ 2 ∷ 3 ∷ 4 ∷ [])
     -- colours by level, likewise
-    ∷ level-colours A (1 ∷ 2 ∷ [])
-    ∷ level-colours five (3 ∷ 2 ∷ 1 ∷ 3 ∷ 2 ∷ [])
-    ∷ level-colours (star 4 "04 " "00 00") (1 ∷ [])
+    ∷ level_colours A (1 ∷ 2 ∷ [])
+    ∷ level_colours five (3 ∷ 2 ∷ 1 ∷ 3 ∷ 2 ∷ [])
+    ∷ level_colours (star 4 "04 " "00 00") (1 ∷ [])
     -- no probes
-    ∷ plan-by-probe "00 00 00" 2 (0 ∷ 0 ∷ 0 ∷ 0 ∷ 2 ∷ []) "00 00"
-    ∷ plan-by-level "00 00 00" 2 (0 ∷ 0 ∷ 0 ∷ 0 ∷ 2 ∷ []) "00 00"
-    ∷ plan-by-probe "00 00 00" 1 (9 ∷ 0 ∷ 0 ∷ 0 ∷ 0 ∷ []) "ee"
-    ∷ plan-by-probe "01 01 00 00 00" 3 (0 ∷ 0 ∷ 1 ∷ 0 ∷ 2 ∷ []) "00 00 ee"
-    ∷ plan-by-probe below-relays 10 (0 ∷ 0 ∷ 3 ∷ 4 ∷ 10 ∷ []) "00 04 01 05 01 04 01 03 01 02"
-    ∷ plan-by-level "02 01 00 01 04 00 00" 10 (0 ∷ 0 ∷ 1 ∷ 4 ∷ 10 ∷ []) "00 04 01 03 01 03 01 03 01 03"
-    ∷ plan-by-probe "02 01 00 01 04 00 00" 10 (0 ∷ 0 ∷ 2 ∷ 4 ∷ 10 ∷ []) "00 04 01 03 01 03 01 03 01 03"
-    ∷ plan-by-probe "04 01 00 01 01 02 01 03 01 00 00" 12 (0 ∷ 0 ∷ 2 ∷ 4 ∷ 11 ∷ []) "00 04 02 04 05 01 03 01 02 01 03 ee"
-    ∷ plan-by-level "00 00 00" 1 (9 ∷ 0 ∷ 0 ∷ 0 ∷ 0 ∷ []) "ee"
+    ∷ plan_by_probe "00 00 00" 2 (0 ∷ 0 ∷ 0 ∷ 0 ∷ 2 ∷ []) "00 00"
+    ∷ plan_by_level "00 00 00" 2 (0 ∷ 0 ∷ 0 ∷ 0 ∷ 2 ∷ []) "00 00"
+    ∷ plan_by_probe "00 00 00" 1 (9 ∷ 0 ∷ 0 ∷ 0 ∷ 0 ∷ []) "ee"
+    ∷ plan_by_probe "01 01 00 00 00" 3 (0 ∷ 0 ∷ 1 ∷ 0 ∷ 2 ∷ []) "00 00 ee"
+    ∷ plan_by_probe below-relays 10 (0 ∷ 0 ∷ 3 ∷ 4 ∷ 10 ∷ []) "00 04 01 05 01 04 01 03 01 02"
+    ∷ plan_by_level "02 01 00 01 04 00 00" 10 (0 ∷ 0 ∷ 1 ∷ 4 ∷ 10 ∷ []) "00 04 01 03 01 03 01 03 01 03"
+    ∷ plan_by_probe "02 01 00 01 04 00 00" 10 (0 ∷ 0 ∷ 2 ∷ 4 ∷ 10 ∷ []) "00 04 01 03 01 03 01 03 01 03"
+    ∷ plan_by_probe "04 01 00 01 01 02 01 03 01 00 00" 12 (0 ∷ 0 ∷ 2 ∷ 4 ∷ 11 ∷ []) "00 04 02 04 05 01 03 01 02 01 03 ee"
+    ∷ plan_by_level "00 00 00" 1 (9 ∷ 0 ∷ 0 ∷ 0 ∷ 0 ∷ []) "ee"
     -- the telephone: at most is the smaller of colours × slowest branch and hops: in the arms 6 and not 9, in the star of 1, 1 and 15 packets 17 and not 45
-    ∷ asked-for ring (6 ∷ 2 ∷ 0 ∷ 0 ∷ 0 ∷ 0 ∷ [])
-    ∷ asked-for "00 00 00" (0 ∷ 0 ∷ 0 ∷ 0 ∷ 0 ∷ 0 ∷ [])
-    ∷ asked-for A (0 ∷ 0 ∷ 3 ∷ 3 ∷ 4 ∷ 1 ∷ [])
-    ∷ asked-for chain (0 ∷ 0 ∷ 5 ∷ 6 ∷ 6 ∷ 2 ∷ [])
-    ∷ asked-for (arms "00 00") (0 ∷ 0 ∷ 6 ∷ 6 ∷ 6 ∷ 1 ∷ [])
-    ∷ asked-for "03 01 01 01 01 01 0f 00 00" (0 ∷ 0 ∷ 17 ∷ 17 ∷ 17 ∷ 1 ∷ [])
+    ∷ asked_for ring (6 ∷ 2 ∷ 0 ∷ 0 ∷ 0 ∷ 0 ∷ [])
+    ∷ asked_for "00 00 00" (0 ∷ 0 ∷ 0 ∷ 0 ∷ 0 ∷ 0 ∷ [])
+    ∷ asked_for A (0 ∷ 0 ∷ 3 ∷ 3 ∷ 4 ∷ 1 ∷ [])
+    ∷ asked_for chain (0 ∷ 0 ∷ 5 ∷ 6 ∷ 6 ∷ 2 ∷ [])
+    ∷ asked_for (arms "00 00") (0 ∷ 0 ∷ 6 ∷ 6 ∷ 6 ∷ 1 ∷ [])
+    ∷ asked_for "03 01 01 01 01 01 0f 00 00" (0 ∷ 0 ∷ 17 ∷ 17 ∷ 17 ∷ 1 ∷ [])
     -- the packets of the heaviest branch, packets and levels below of the longest, packets and lag of the slowest
     ∷ branches "00 00 00" (0 ∷ 0 ∷ 0 ∷ [])
     ∷ branches A (2 ∷ 3 ∷ 2 ∷ [])
     ∷ branches below-relays (1 ∷ 4 ∷ 4 ∷ [])
     ∷ branches "03 01 01 02 00 03 02 00 00" (3 ∷ 5 ∷ 4 ∷ [])
     -- how many times, rounded up; the colours where they are fewer: a packet below six relays has three, 7 slots, and at least 2; nothing sent is 0 times
-    ∷ how-often 3 7 2 3
-    ∷ how-often 5 7 2 4
-    ∷ how-often 5 8 2 4
-    ∷ how-often 5 2 2 1
-    ∷ how-often 1 0 0 0
+    ∷ how_often 3 7 2 3
+    ∷ how_often 5 7 2 4
+    ∷ how_often 5 8 2 4
+    ∷ how_often 5 2 2 1
+    ∷ how_often 1 0 0 0
     -- the fewest slots of any plan: all packets where no branch wants more, or what the busiest probe hears and sends: in the chain 5 and not 3; a lone branch
     -- whose packets are its top's own; two branches, of which the heavier wants 8 and all packets are 9; a relay hears and sends
     ∷ fewest "00 00 00" 0
@@ -414,40 +414,40 @@ yards =
     ∷ fewest "03 01 01 02 00 03 02 00 00" 5
     ∷ fewest mixed 20
     -- the largest degree; with no probes it is 0, and of a lone probe too
-    ∷ most-conflicts "00 00 00" 0
-    ∷ most-conflicts "01 01 0f 00 00" 0
-    ∷ most-conflicts A 2
-    ∷ most-conflicts five 4
+    ∷ most_conflicts "00 00 00" 0
+    ∷ most_conflicts "01 01 0f 00 00" 0
+    ∷ most_conflicts A 2
+    ∷ most_conflicts five 4
     -- relays: none that never receives sends; a lone packet below three of them, above colours × packets; two with two packets below, where the lag is 1
-    ∷ asked-for "01 01 00 00 00" (0 ∷ 0 ∷ 0 ∷ 0 ∷ 0 ∷ 0 ∷ [])
-    ∷ asked-for below-relays (0 ∷ 0 ∷ 2 ∷ 4 ∷ 4 ∷ 2 ∷ [])
-    ∷ asked-for "04 01 00 02 02 01 00 04 02 00 00" (0 ∷ 0 ∷ 4 ∷ 5 ∷ 6 ∷ 2 ∷ [])
-    ∷ asked-for "04 01 00 01 01 02 01 03 01 00 00" (0 ∷ 0 ∷ 3 ∷ 4 ∷ 4 ∷ 2 ∷ [])
-    ∷ asked-for "06 01 00 02 02 03 00 04 00 05 03 06 01 00 00" (0 ∷ 0 ∷ 12 ∷ 18 ∷ 24 ∷ 2 ∷ [])
+    ∷ asked_for "01 01 00 00 00" (0 ∷ 0 ∷ 0 ∷ 0 ∷ 0 ∷ 0 ∷ [])
+    ∷ asked_for below-relays (0 ∷ 0 ∷ 2 ∷ 4 ∷ 4 ∷ 2 ∷ [])
+    ∷ asked_for "04 01 00 02 02 01 00 04 02 00 00" (0 ∷ 0 ∷ 4 ∷ 5 ∷ 6 ∷ 2 ∷ [])
+    ∷ asked_for "04 01 00 01 01 02 01 03 01 00 00" (0 ∷ 0 ∷ 3 ∷ 4 ∷ 4 ∷ 2 ∷ [])
+    ∷ asked_for "06 01 00 02 02 03 00 04 00 05 03 06 01 00 00" (0 ∷ 0 ∷ 12 ∷ 18 ∷ 24 ∷ 2 ∷ [])
     -- A, by probe and by level; 9 is one byte less than its room
-    ∷ plan-by-probe A 10 (0 ∷ 0 ∷ 2 ∷ 3 ∷ 9 ∷ []) "00 03 01 02 02 03 04 01 02 ee"
-    ∷ plan-by-probe A 9 (9 ∷ 0 ∷ 0 ∷ 0 ∷ 0 ∷ []) "ee ee ee ee ee ee ee ee ee"
-    ∷ plan-by-level A 10 (0 ∷ 0 ∷ 2 ∷ 3 ∷ 9 ∷ []) "00 03 01 02 02 03 04 01 02 ee"
-    ∷ plan-by-level A 9 (9 ∷ 0 ∷ 0 ∷ 0 ∷ 0 ∷ []) "ee ee ee ee ee ee ee ee ee"
+    ∷ plan_by_probe A 10 (0 ∷ 0 ∷ 2 ∷ 3 ∷ 9 ∷ []) "00 03 01 02 02 03 04 01 02 ee"
+    ∷ plan_by_probe A 9 (9 ∷ 0 ∷ 0 ∷ 0 ∷ 0 ∷ []) "ee ee ee ee ee ee ee ee ee"
+    ∷ plan_by_level A 10 (0 ∷ 0 ∷ 2 ∷ 3 ∷ 9 ∷ []) "00 03 01 02 02 03 04 01 02 ee"
+    ∷ plan_by_level A 9 (9 ∷ 0 ∷ 0 ∷ 0 ∷ 0 ∷ []) "ee ee ee ee ee ee ee ee ee"
     -- A with pair 2, 4; the chain; fifteen packets
-    ∷ plan-by-probe A-with-a-pair 10 (0 ∷ 0 ∷ 3 ∷ 4 ∷ 10 ∷ []) "00 04 01 02 01 03 01 04 01 02"
-    ∷ plan-by-probe chain 14 (0 ∷ 0 ∷ 3 ∷ 6 ∷ 14 ∷ []) "00 06 01 02 01 03 01 04 01 02 01 03 01 02"
-    ∷ plan-by-probe "01 01 0f 00 00" 33 (0 ∷ 0 ∷ 1 ∷ 15 ∷ 32 ∷ [])
+    ∷ plan_by_probe A-with-a-pair 10 (0 ∷ 0 ∷ 3 ∷ 4 ∷ 10 ∷ []) "00 04 01 02 01 03 01 04 01 02"
+    ∷ plan_by_probe chain 14 (0 ∷ 0 ∷ 3 ∷ 6 ∷ 14 ∷ []) "00 06 01 02 01 03 01 04 01 02 01 03 01 02"
+    ∷ plan_by_probe "01 01 0f 00 00" 33 (0 ∷ 0 ∷ 1 ∷ 15 ∷ 32 ∷ [])
     "00 0f 01 02 01 02 01 02 01 02 01 02 01 02 01 02 01 02 01 02 01 02 01 02 01 02 01 02 01 02 01 02 ee"
     -- the sheet comes before the room
-    ∷ plan-by-probe ring 4 (6 ∷ 2 ∷ 0 ∷ 0 ∷ 0 ∷ []) "ee ee ee ee"
-    ∷ plan-by-level ring 4 (6 ∷ 2 ∷ 0 ∷ 0 ∷ 0 ∷ []) "ee ee ee ee"
-    ∷ plan-by-probe "02 01 01 01 01 00 02 01 02 01 02" 2 (8 ∷ 2 ∷ 0 ∷ 0 ∷ 0 ∷ []) "ee ee"
+    ∷ plan_by_probe ring 4 (6 ∷ 2 ∷ 0 ∷ 0 ∷ 0 ∷ []) "ee ee ee ee"
+    ∷ plan_by_level ring 4 (6 ∷ 2 ∷ 0 ∷ 0 ∷ 0 ∷ []) "ee ee ee ee"
+    ∷ plan_by_probe "02 01 01 01 01 00 02 01 02 01 02" 2 (8 ∷ 2 ∷ 0 ∷ 0 ∷ 0 ∷ []) "ee ee"
     -- several rounds; joiners conflict with earlier joiners; a probe emptied as a joiner does not send again unless refilled
-    ∷ plan-by-probe "05 01 01 02 01 03 01 04 01 04 01 00 00" 30 (0 ∷ 0 ∷ 4 ∷ 12 ∷ 28 ∷ [])
+    ∷ plan_by_probe "05 01 01 02 01 03 01 04 01 04 01 00 00" 30 (0 ∷ 0 ∷ 4 ∷ 12 ∷ 28 ∷ [])
     "00 0c 01 03 01 04 02 02 05 02 02 06 01 03 01 04 01 02 01 03 01 04 01 02 01 03 01 02 ee ee"
     -- by level, several rounds; probes of one level may conflict
-    ∷ plan-by-level mixed 53 (0 ∷ 0 ∷ 3 ∷ 20 ∷ 47 ∷ [])
+    ∷ plan_by_level mixed 53 (0 ∷ 0 ∷ 3 ∷ 20 ∷ 47 ∷ [])
     "00 14 02 02 07 02 03 05 02 04 06 01 02 02 03 05 02 04 06 01 02 01 03 01 02 01 03 01 02 01 03 01 02 01 04 01 02 01 04 01 02 01 02 01 02 01 02 ee ee ee ee ee ee"
-    ∷ plan-by-level "04 01 02 01 01 01 01 02 03 00 00" 22 (0 ∷ 0 ∷ 2 ∷ 8 ∷ 20 ∷ [])
+    ∷ plan_by_level "04 01 02 01 01 01 01 02 03 00 00" 22 (0 ∷ 0 ∷ 2 ∷ 8 ∷ 20 ∷ [])
     "00 08 01 02 02 03 05 01 02 02 04 05 01 02 01 05 01 02 01 02 ee ee"
-    ∷ plan-by-level five 32 (0 ∷ 0 ∷ 3 ∷ 12 ∷ 29 ∷ []) "00 0c 01 04 02 03 06 02 02 05 01 04 01 03 02 02 05 01 04 01 03 01 02 01 03 01 02 01 02 ee ee ee"
-    ∷ plan-by-level "04 01 01 01 01 01 01 02 01 00 00" 12 (0 ∷ 0 ∷ 2 ∷ 4 ∷ 11 ∷ []) "00 04 01 02 02 03 05 01 02 01 04 ee"
+    ∷ plan_by_level five 32 (0 ∷ 0 ∷ 3 ∷ 12 ∷ 29 ∷ []) "00 0c 01 04 02 03 06 02 02 05 01 04 01 03 02 02 05 01 04 01 03 01 02 01 03 01 02 01 02 ee ee ee"
+    ∷ plan_by_level "04 01 01 01 01 01 01 02 01 00 00" 12 (0 ∷ 0 ∷ 2 ∷ 4 ∷ 11 ∷ []) "00 04 01 02 02 03 05 01 02 01 04 ee"
     -- the lister, whole
     ∷ listed A "colours 2 slots 3 packets 3 heaviest 2 least 3\n1: 2\n2: 3 4\n3: 2\n"
     ∷ listed "00 00 00" "colours 0 slots 0 packets 0 heaviest 0 least 0\n"
@@ -460,10 +460,10 @@ yards =
 -- the one claim: every row is true
 pub proved-yards : T (all_true yards)
 unfolding digit pairs hex many planner verdict names told same alike up says true-row all_true A A-with-a-pair chain turned ring below-relays five arms four-arms mixed star yards
-    forEach some least sum most tab probesThat reaches climb climbed lagOn parent_of packetsOf levelOf hops allPackets heaviest longest slowest leastSlots interfere slotBytes slotsFrom
-    disturb conflict conflictTable smallestFree next_of colouredBy probeColours levelsConflict levels depth levelColours
-    joined ownersByProbe ownersByLevel slot_of turn_of moved heldAfter recorded round rounds byProbe byLevel slotsIn
-    ◌then◌ inOrder probeTest walkTest pairTest countsTest sheetTest planTestIn planMadeIn
-    slotTest twoNames slotNames slotTested slotJudged slotsJudged planJudgedBy planJudged judgeIn planNamesBy planNames judgementIn choice
-    text decimal numbersLine sendersText slotLine slotLines list asked
+    for_each some least sum most tab probes_that reaches climb climbed lag_on parent_of packets_of level_of hops all_packets heaviest longest slowest least_slots interfere slot_bytes slots_from
+    disturb conflict conflict_table smallest_free next_of coloured_by probe_colours levels_conflict levels depth level_colours
+    joined owners_by_probe owners_by_level slot_of turn_of moved held_after recorded round rounds by_probe by_level slots_in
+    ◌then◌ in_order probe_test walk_test pair_test counts_test sheet_test plan_test_in plan_made_in
+    slot_test two_names slot_names slot_tested slot_judged slots_judged plan_judged_by plan_judged judge_in plan_names_by plan_names judgement_in choice
+    text decimal numbers_line senders_text slot_line slot_lines list asked
 proved-yards = tt

@@ -18,13 +18,13 @@ abbrev pub Relation : Type 0
 Relation = Node → Node → Bool
 
 -- step 0, then step 1, .. up to step (n - 1), from start
-unfoldable pub forEach : {A : Type 0} → ℕ → (ℕ → A → A) → A → A
-forEach zero step start = start
-forEach (suc k) step start = step k (forEach k step start)
+unfoldable pub for_each : {A : Type 0} → ℕ → (ℕ → A → A) → A → A
+for_each zero step start = start
+for_each (suc k) step start = step k (for_each k step start)
 
 -- a step while it is still busy, at most n of them
-abbrev pub whileBusy : {A : Type 0} → (busy : A → Bool) → (step : A → A) → ℕ → A → A
-whileBusy busy step n start = forEach n (λ _ now. cond (busy now) (step now) now) start
+abbrev pub while_busy : {A : Type 0} → (busy : A → Bool) → (step : A → A) → ℕ → A → A
+while_busy busy step n start = for_each n (λ _ now. cond (busy now) (step now) now) start
 
 -- some number below n passes the test
 unfoldable pub some : ℕ → (ℕ → Bool) → Bool
@@ -33,7 +33,7 @@ some (suc k) test = some k test || test k
 
 -- the first number that passes the test, looked for below n; n where none does
 unfoldable pub least : ℕ → (ℕ → Bool) → ℕ
-least n test = whileBusy (λ k. not (test k)) suc n 0
+least n test = while_busy (λ k. not (test k)) suc n 0
 
 -- f 0 + f 1 + .. + f (n - 1)
 unfoldable pub sum : ℕ → (ℕ → ℕ) → ℕ
@@ -64,23 +64,23 @@ abbrev pub places : ℕ
 places = 65
 
 -- what such a list has for each node
-abbrev pub byNode : List ℕ → Node → ℕ
-byNode list v = get_or list v 0
+abbrev pub by_node : List ℕ → Node → ℕ
+by_node list v = get_or list v 0
 
 -- the same over the p probes, in rising number
-abbrev pub eachProbe : {A : Type 0} → ℕ → (ℕ → A → A) → A → A
-eachProbe p step = forEach p (λ k. step (k + 2))
+abbrev pub each_probe : {A : Type 0} → ℕ → (ℕ → A → A) → A → A
+each_probe p step = for_each p (λ k. step (k + 2))
 
-abbrev pub someProbe : ℕ → (ℕ → Bool) → Bool
-someProbe p test = some p (λ k. test (k + 2))
+abbrev pub some_probe : ℕ → (ℕ → Bool) → Bool
+some_probe p test = some p (λ k. test (k + 2))
 
-abbrev pub sumProbes : ℕ → (ℕ → ℕ) → ℕ
-sumProbes p f = sum p (λ k. f (k + 2))
+abbrev pub sum_probes : ℕ → (ℕ → ℕ) → ℕ
+sum_probes p f = sum p (λ k. f (k + 2))
 
-abbrev pub mostProbes : ℕ → (ℕ → ℕ) → ℕ
-mostProbes p f = most p (λ k. f (k + 2))
+abbrev pub most_probes : ℕ → (ℕ → ℕ) → ℕ
+most_probes p f = most p (λ k. f (k + 2))
 
 -- the probes that pass the test, in rising number
-unfoldable pub probesThat : ℕ → (ℕ → Bool) → List ℕ
-probesThat zero test = []
-probesThat (suc k) test = probesThat k test ++ cond (test (k + 2)) ((k + 2) ∷ []) []
+unfoldable pub probes_that : ℕ → (ℕ → Bool) → List ℕ
+probes_that zero test = []
+probes_that (suc k) test = probes_that k test ++ cond (test (k + 2)) ((k + 2) ∷ []) []

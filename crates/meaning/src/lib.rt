@@ -1,6 +1,6 @@
 // The yard's own numbers and answers. Their meaning, after docs/RULES.md, stands in specs/.
 ghost use Rattle.std.specs.Prelude.{◌≡◌};
-ghost use Rattle.meaning.specs.Answer.{refusedPlan};
+ghost use Rattle.meaning.specs.Answer.{refused_plan};
 
 // So many bytes of a sheet decide every answer.
 pub const DECIDING_SHEET: usize = 4162;
@@ -156,7 +156,7 @@ pub enum Choice {
 
 // A planner's answer where it refuses.
 pub fn refused_plan(outcome: Outcome) -> Planned
-    ensures { result ≡ refusedPlan outcome }
+    ensures { result ≡ refused_plan outcome }
 {
     Planned {
         outcome,

@@ -1,6 +1,6 @@
 // The telephone of merged readings: how long one takes, told of a sheet before anything is sent. The theorems about it stand in proofs/MergedLimits.antt.
 ghost use Rattle.std.specs.Prelude.{◌≡◌, ◌*◌, min};
-ghost use Rattle.meaning.specs.Merged.{mergedAsked};
+ghost use Rattle.meaning.specs.Merged.{merged_asked};
 
 use meaning::MergedTold;
 
@@ -18,7 +18,7 @@ fn at_most(colours: u8, depth: u8, p: u8) -> u16
 
 // The slots of a merged reading of any sheet at least, in our plan and at most, or the refusal.
 pub fn ask(sheet: &[u8]) -> MergedTold
-    ensures { result ≡ mergedAsked sheet.now }
+    ensures { result ≡ merged_asked sheet.now }
 {
     let mut buf = [0u8; meaning::ANY_MERGED];
     let planned = plan::merged(sheet, &mut buf);

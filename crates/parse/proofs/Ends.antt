@@ -7,36 +7,36 @@ use lib.ListN.{length}
 use Rattle.meaning.specs.Words.{Bytes}
 use Rattle.graph.specs.declared.Reading.{Reading}
 use Rattle.graph.specs.declared.Graph.{Graph}
-use Rattle.graph.specs.Table.{Table, noEdges, edges}
-use Rattle.graph.specs.Reading.{faulty, lastRead, endTest, GraphRead, ended}
+use Rattle.graph.specs.Table.{Table, no_edges, edges}
+use Rattle.graph.specs.Reading.{faulty, last_read, end_test, GraphRead, ended}
 
 module _ (now : Reading) (behind : Bytes) where
-  pub faulty-stays : (now.number ≡ 0 → ⊥) → now ≡ lastRead now behind
-  unfolding lastRead
+  pub faulty-stays : (now.number ≡ 0 → ⊥) → now ≡ last_read now behind
+  unfolding last_read
   faulty-stays some = simp (ne_eqb now.number 0 some)
 
   module _ (none : now.number ≡ 0) where
-    pub ended-stays : length behind ≡ 0 → now ≡ lastRead now behind
-    unfolding lastRead
+    pub ended-stays : length behind ≡ 0 → now ≡ last_read now behind
+    unfolding last_read
     ended-stays e = simp (eq-eqb now.number 0 none, eq-eqb (length behind) 0 e)
 
-    pub unended : (length behind ≡ 0 → ⊥) → faulty 18 now ≡ lastRead now behind
-    unfolding lastRead
+    pub unended : (length behind ≡ 0 → ⊥) → faulty 18 now ≡ last_read now behind
+    unfolding last_read
     unended more = simp (eq-eqb now.number 0 none, ne_eqb (length behind) 0 more)
 
 module _ (now : Reading) (table : Table) where
-  pub no-problem-line : now.begun ≡ false → 18 ≡ endTest now table
-  unfolding endTest
+  pub no-problem-line : now.begun ≡ false → 18 ≡ end_test now table
+  unfolding end_test
   no-problem-line e = simp e
 
-  module _ (begun : now.begun ≡ true) (n : ℕ) (nIs : n ≡ edges table) where
-    pub count-differs : (now.stated ≡ n → ⊥) → 20 ≡ endTest now table
-    unfolding endTest
-    count-differs other = simp (begun, sym nIs, ne_eqb now.stated n other)
+  module _ (begun : now.begun ≡ true) (n : ℕ) (n_is : n ≡ edges table) where
+    pub count-differs : (now.stated ≡ n → ⊥) → 20 ≡ end_test now table
+    unfolding end_test
+    count-differs other = simp (begun, sym n_is, ne_eqb now.stated n other)
 
-    pub count-agrees : now.stated ≡ n → 0 ≡ endTest now table
-    unfolding endTest
-    count-agrees same = simp (begun, sym nIs, eq-eqb now.stated n same)
+    pub count-agrees : now.stated ≡ n → 0 ≡ end_test now table
+    unfolding end_test
+    count-agrees same = simp (begun, sym n_is, eq-eqb now.stated n same)
 
 -- the answer, taken apart
 parted : (x : GraphRead) (answer : Graph) (table : Table) → x ≡ record { answer = answer; table = table } → (answer ≡ x.answer) × (table ≡ x.table)
@@ -50,17 +50,17 @@ module _ (now : Reading) (table : Table) where
   refusing number place = record { number = number; place = place; vertices = 0 }
 
   -- a faulty line was read; `answer` and `cleared` are what a refusal gives
-  module _ (answer : Graph) (cleared : Table) (clear : cleared ≡ noEdges) where
+  module _ (answer : Graph) (cleared : Table) (clear : cleared ≡ no_edges) where
     pub line-refuses : (now.number ≡ 0 → ⊥) → answer ≡ refusing now.number now.place → (answer ≡ end.answer) × (cleared ≡ end.table)
     unfolding ended
     line-refuses some e = parted end answer cleared (simp (ne_eqb now.number 0 some, clear, e))
 
     -- the end is wrong
-    pub end-refuses : (n : ℕ) → n ≡ endTest now table → now.number ≡ 0 → (n ≡ 0 → ⊥) → answer ≡ refusing n 0 → (answer ≡ end.answer) × (cleared ≡ end.table)
+    pub end-refuses : (n : ℕ) → n ≡ end_test now table → now.number ≡ 0 → (n ≡ 0 → ⊥) → answer ≡ refusing n 0 → (answer ≡ end.answer) × (cleared ≡ end.table)
     unfolding ended
-    end-refuses n nIs none some e = parted end answer cleared (simp (eq-eqb now.number 0 none, sym nIs, ne_eqb n 0 some, clear, e))
+    end-refuses n n_is none some e = parted end answer cleared (simp (eq-eqb now.number 0 none, sym n_is, ne_eqb n 0 some, clear, e))
 
-  pub accepts : (n : ℕ) → n ≡ endTest now table → now.number ≡ 0 → n ≡ 0
+  pub accepts : (n : ℕ) → n ≡ end_test now table → now.number ≡ 0 → n ≡ 0
       → (record { number = 0; place = 0; vertices = now.vertices } ≡ end.answer) × (table ≡ end.table)
   unfolding ended
-  accepts n nIs none fine = parted end (record { number = 0; place = 0; vertices = now.vertices }) table (simp (eq-eqb now.number 0 none, sym nIs, eq-eqb n 0 fine))
+  accepts n n_is none fine = parted end (record { number = 0; place = 0; vertices = now.vertices }) table (simp (eq-eqb now.number 0 none, sym n_is, eq-eqb n 0 fine))

@@ -17,8 +17,8 @@ use Rattle.graph.specs.declared.Line.TheVariants.{Comment, Problem, Edge, Other}
 use Rattle.graph.specs.declared.Reading.{Reading}
 use Rattle.graph.specs.Lines.{line_of}
 use Rattle.graph.specs.Table.{Table}
-use Rattle.graph.specs.Reading.{SoFar, mayStand, isAstray, lineTest, taken, faulty, tableAfter, lineRead}
-use Rattle.parse.specs.Vertices.{verticesSaid}
+use Rattle.graph.specs.Reading.{SoFar, may_stand, is_astray, line_test, taken, faulty, table_after, line_read}
+use Rattle.parse.specs.Vertices.{vertices_said}
 
 -- what holds of the three other lines holds of a line that is no edge, and of one that is no `p` line
 pub no_edge : (P : Line → Type 0) → P Comment → ((n m : ℕ) → P (Problem n m)) → P Other
@@ -43,23 +43,23 @@ not-up : (b : Bool) → not b ≡ true → b ≡ false
 not-up b e = sym (not-not b) ∙ ap not e
 
 -- the number of a line
-module _ (now : Reading) (table : Table) (l : Line) (stands : Bool) (standsIs : stands ≡ mayStand now table l) where
-  pub gives-18 : not stands ≡ true → 18 ≡ lineTest now table l
-  unfolding lineTest
-  gives-18 never = simp (sym standsIs ∙ not-up stands never)
+module _ (now : Reading) (table : Table) (l : Line) (stands : Bool) (stands_is : stands ≡ may_stand now table l) where
+  pub gives-18 : not stands ≡ true → 18 ≡ line_test now table l
+  unfolding line_test
+  gives-18 never = simp (sym stands_is ∙ not-up stands never)
 
-  module _ (astray : Bool) (astrayIs : astray ≡ isAstray now l) (may : not stands ≡ false) where
-    pub gives-19 : astray ≡ true → 19 ≡ lineTest now table l
-    unfolding lineTest
-    gives-19 out = simp (sym standsIs ∙ not-down stands may, sym astrayIs ∙ out)
+  module _ (astray : Bool) (astray_is : astray ≡ is_astray now l) (may : not stands ≡ false) where
+    pub gives-19 : astray ≡ true → 19 ≡ line_test now table l
+    unfolding line_test
+    gives-19 out = simp (sym stands_is ∙ not-down stands may, sym astray_is ∙ out)
 
-    pub gives-0 : astray ≡ false → 0 ≡ lineTest now table l
-    unfolding lineTest
-    gives-0 in-range = simp (sym standsIs ∙ not-down stands may, sym astrayIs ∙ in-range)
+    pub gives-0 : astray ≡ false → 0 ≡ line_test now table l
+    unfolding line_test
+    gives-0 in-range = simp (sym stands_is ∙ not-down stands may, sym astray_is ∙ in-range)
 
 -- a line without a fault says at most 63 vertices
-pub few-said : (now : Reading) (table : Table) (l : Line) → lineTest now table l ≡ 0 → verticesSaid l ≤ 63
-unfolding lineTest mayStand verticesSaid
+pub few-said : (now : Reading) (table : Table) (l : Line) → line_test now table l ≡ 0 → vertices_said l ≤ 63
+unfolding line_test may_stand vertices_said
 few-said now table Comment e = omega arith
 few-said now table (Problem n m) e = leb-true n 63 (and_right (not now.begun) (leb n 63) (stood (not now.begun && leb n 63) _ e))
   where
@@ -76,22 +76,22 @@ parted x state table e = (sym (ap (λ (y : SoFar). y.state) e), sym (ap (λ (y :
 -- one line more
 module _ (now : Reading) (table : Table) (u : Bytes) where
   abbrev after : SoFar
-  after = lineRead (record { state = now; table = table }) u
+  after = line_read (record { state = now; table = table }) u
 
   -- behind a faulty line
   pub stays : (now.number ≡ 0 → ⊥) → (now ≡ after.state) × (table ≡ after.table)
-  unfolding lineRead
+  unfolding line_read
   stays some = parted after now table (simp (ne_eqb now.number 0 some))
 
-  module _ (l : Line) (is : l ≡ line_of u) (n : ℕ) (nIs : n ≡ lineTest now table l) (none : now.number ≡ 0) where
-    tested : lineTest now table (line_of u) ≡ n
-    tested = ap (lineTest now table) (sym is) ∙ sym nIs
+  module _ (l : Line) (is : l ≡ line_of u) (n : ℕ) (n_is : n ≡ line_test now table l) (none : now.number ≡ 0) where
+    tested : line_test now table (line_of u) ≡ n
+    tested = ap (line_test now table) (sym is) ∙ sym n_is
 
     pub turns-faulty : (state : Reading) → state ≡ faulty n now → (n ≡ 0 → ⊥) → (state ≡ after.state) × (table ≡ after.table)
-    unfolding lineRead
+    unfolding line_read
     turns-faulty state e some = parted after state table (simp (eq-eqb now.number 0 none, tested, ne_eqb n 0 some, e))
 
-    pub goes_on : (state : Reading) (table' : Table) → state ≡ taken now l → table' ≡ tableAfter table l → n ≡ 0 → (state ≡ after.state) × (table' ≡ after.table)
-    unfolding lineRead
+    pub goes_on : (state : Reading) (table' : Table) → state ≡ taken now l → table' ≡ table_after table l → n ≡ 0 → (state ≡ after.state) × (table' ≡ after.table)
+    unfolding line_read
     goes_on state table' e t fine =
         parted after state table' (simp (eq-eqb now.number 0 none, tested, eq-eqb n 0 fine, e, t, is))

@@ -3,10 +3,10 @@ ghost use Rattle.std.specs.Prelude.{◌≡◌, ◌⊎◌, ◌≤◌, drop};
 ghost use Rattle.meaning.specs.Words.{places};
 ghost use Rattle.meaning.specs.Conflict.{entry};
 ghost use Rattle.conflict.specs.Marks.{marked};
-ghost use Rattle.graph.specs.Table.{noEdges, isJoined, withEdge};
-ghost use Rattle.graph.specs.Reading.{unread, nextLine, mayStand, isAstray, lineTest, taken, faulty, tableAfter, lineRead, lastRead, endTest, ended, graphRead};
-ghost use Rattle.parse.specs.Vertices.{verticesSaid};
-ghost use Rattle.parse.specs.Piece.{behindLast, lastBegins, linesAfter};
+ghost use Rattle.graph.specs.Table.{no_edges, is_joined, with_edge};
+ghost use Rattle.graph.specs.Reading.{unread, next_line, may_stand, is_astray, line_test, taken, faulty, table_after, line_read, last_read, end_test, ended, graph_read};
+ghost use Rattle.parse.specs.Vertices.{vertices_said};
+ghost use Rattle.parse.specs.Piece.{behind_last, last_begins, lines_after};
 
 use graph::{Graph, Line, Reading};
 
@@ -25,7 +25,7 @@ pub struct Stepped {
 
 // Clears a table, whatever it held.
 fn clear(table: &mut [[bool; 65]; 65])
-    ensures { table.new ≡ noEdges }
+    ensures { table.new ≡ no_edges }
 {
     *table = [[false; 65]; 65];
 }
@@ -33,7 +33,7 @@ fn clear(table: &mut [[bool; 65]; 65])
 // Before the first line.
 pub fn unread(table: &mut [[bool; 65]; 65]) -> Reading
     ensures state { result ≡ unread }
-    ensures table { table.new ≡ noEdges }
+    ensures table { table.new ≡ no_edges }
 {
     clear(table);
     Reading {
@@ -48,7 +48,7 @@ pub fn unread(table: &mut [[bool; 65]; 65]) -> Reading
 
 // The number of the next line.
 fn next_line(read: Reading) -> u64
-    ensures { result ≡ nextLine read }
+    ensures { result ≡ next_line read }
 {
     let lines = read.lines;
     if lines == LAST_LINE {
@@ -67,7 +67,7 @@ fn outside(table: [[bool; 65]; 65], x: usize, y: usize) -> bool
 
 // Whether an edge stands in a table.
 fn is_joined(table: &[[bool; 65]; 65], a: u16, b: u16) -> bool
-    ensures { result ≡ isJoined table.now a b }
+    ensures { result ≡ is_joined table.now a b }
 {
     let x = a as usize + 1;
     let y = b as usize + 1;
@@ -81,7 +81,7 @@ fn is_joined(table: &[[bool; 65]; 65], a: u16, b: u16) -> bool
 
 // Whether a line may stand behind what was read, but for its vertices.
 fn may_stand(read: Reading, table: &[[bool; 65]; 65], line: Line) -> bool
-    ensures { result ≡ mayStand read table.now line }
+    ensures { result ≡ may_stand read table.now line }
 {
     match line {
         Line::Comment => true,
@@ -93,7 +93,7 @@ fn may_stand(read: Reading, table: &[[bool; 65]; 65], line: Line) -> bool
 
 // Whether a line has a vertex out of range, or a loop.
 fn is_astray(read: Reading, line: Line) -> bool
-    ensures { result ≡ isAstray read line }
+    ensures { result ≡ is_astray read line }
 {
     let Line::Edge(a, b) = line else {
         return false;
@@ -104,7 +104,7 @@ fn is_astray(read: Reading, line: Line) -> bool
 
 // What is wrong with a line, 18 first.
 fn line_test(read: Reading, table: &[[bool; 65]; 65], line: Line) -> u8
-    ensures { result ≡ lineTest read table.now line }
+    ensures { result ≡ line_test read table.now line }
 {
     let stands = may_stand(read, table, line);
     let astray = is_astray(read, line);
@@ -119,7 +119,7 @@ fn line_test(read: Reading, table: &[[bool; 65]; 65], line: Line) -> u8
 
 // What is known after a line without a fault.
 fn taken(read: Reading, line: Line) -> Reading
-    requires few { verticesSaid line ≤ 63 }
+    requires few { vertices_said line ≤ 63 }
     ensures { result ≡ taken read line }
 {
     let mut next = read;
@@ -159,7 +159,7 @@ fn mark(table: &mut [[bool; 65]; 65], x: usize, y: usize)
 
 // One edge more, marked both ways; vertex v is probe v + 1.
 fn join(table: &mut [[bool; 65]; 65], a: u16, b: u16)
-    ensures { table.new ≡ withEdge table.old a b }
+    ensures { table.new ≡ with_edge table.old a b }
 {
     let x = a as usize + 1;
     let y = b as usize + 1;
@@ -169,7 +169,7 @@ fn join(table: &mut [[bool; 65]; 65], a: u16, b: u16)
 
 // The table after a line without a fault.
 fn table_after(table: &mut [[bool; 65]; 65], line: Line)
-    ensures { table.new ≡ tableAfter table.old line }
+    ensures { table.new ≡ table_after table.old line }
 {
     if let Line::Edge(a, b) = line {
         join(table, a, b);
@@ -178,8 +178,8 @@ fn table_after(table: &mut [[bool; 65]; 65], line: Line)
 
 // One line more; behind the first faulty line nothing changes.
 pub fn line_read(read: Reading, line: &[u8], table: &mut [[bool; 65]; 65]) -> Reading
-    ensures state { result ≡ (lineRead (record { state = read; table = table.old }) line.now).state }
-    ensures table { table.new ≡ (lineRead (record { state = read; table = table.old }) line.now).table }
+    ensures state { result ≡ (line_read (record { state = read; table = table.old }) line.now).state }
+    ensures table { table.new ≡ (line_read (record { state = read; table = table.old }) line.now).table }
 {
     if read.number != 0 {
         return read;
@@ -195,7 +195,7 @@ pub fn line_read(read: Reading, line: &[u8], table: &mut [[bool; 65]; 65]) -> Re
 
 // The bytes behind the last newline: they are an unended line.
 pub fn last_read(read: Reading, behind: &[u8]) -> Reading
-    ensures { result ≡ lastRead read behind.now }
+    ensures { result ≡ last_read read behind.now }
 {
     if read.number != 0 {
         return read;
@@ -208,7 +208,7 @@ pub fn last_read(read: Reading, behind: &[u8]) -> Reading
 
 // What is wrong at the end.
 fn end_test(read: Reading, table: &[[bool; 65]; 65]) -> u8
-    ensures { result ≡ endTest read table.now }
+    ensures { result ≡ end_test read table.now }
 {
     if read.begun {
         let stated = read.stated;
@@ -224,7 +224,7 @@ fn end_test(read: Reading, table: &[[bool; 65]; 65]) -> u8
 // A refused text gives the table of 0 vertices.
 fn refused(number: u8, place: u64, table: &mut [[bool; 65]; 65]) -> Graph
     ensures answer { result ≡ record { number = number; place = place; vertices = 0 } }
-    ensures table { table.new ≡ noEdges }
+    ensures table { table.new ≡ no_edges }
 {
     clear(table);
     Graph {
@@ -255,10 +255,10 @@ pub fn ended(read: Reading, table: &mut [[bool; 65]; 65]) -> Graph
 
 // The lines of a piece that are ended, one after the other.
 pub fn lines_after(read: Reading, piece: &[u8], table: &mut [[bool; 65]; 65]) -> Stepped
-    ensures state { result.read ≡ (linesAfter (record { state = read; table = table.old }) piece.now).state }
-    ensures place { result.at ≡ lastBegins piece.now }
-    ensures behind { drop result.at piece.now ≡ behindLast piece.now }
-    ensures table { table.new ≡ (linesAfter (record { state = read; table = table.old }) piece.now).table }
+    ensures state { result.read ≡ (lines_after (record { state = read; table = table.old }) piece.now).state }
+    ensures place { result.at ≡ last_begins piece.now }
+    ensures behind { drop result.at piece.now ≡ behind_last piece.now }
+    ensures table { table.new ≡ (lines_after (record { state = read; table = table.old }) piece.now).table }
 {
     let mut so_far = read;
     let mut at = 0;
@@ -276,8 +276,8 @@ pub fn lines_after(read: Reading, piece: &[u8], table: &mut [[bool; 65]; 65]) ->
 
 // A text read into a table.
 pub fn graph_read(text: &[u8], table: &mut [[bool; 65]; 65]) -> Graph
-    ensures answer { result ≡ (graphRead text.now).answer }
-    ensures table { table.new ≡ (graphRead text.now).table }
+    ensures answer { result ≡ (graph_read text.now).answer }
+    ensures table { table.new ≡ (graph_read text.now).table }
 {
     let start = unread(table);
     let stepped = lines_after(start, text, table);

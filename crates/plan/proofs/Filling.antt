@@ -8,25 +8,25 @@ use native.Mathlib.Omega.{arith}
 use borrow.Rule.Slice.PartMut.{put_mid}
 use lib.ListN.{length, drop, set, length-append}
 use Rattle.plan.specs.declared.Way as code
-use Rattle.meaning.specs.Words.{byNode}
-use Rattle.meaning.specs.Yard.{levelBy}
-use Rattle.meaning.specs.Plan.{front, slotBytes}
-use Rattle.meaning.specs.Rounds.{Progress, Way, holds, outside, heldAfter, recorded, turn, round, rounds}
-use Rattle.laws.proofs.Turns.{forEach-keeps}
+use Rattle.meaning.specs.Words.{by_node}
+use Rattle.meaning.specs.Yard.{level_by}
+use Rattle.meaning.specs.Plan.{front, slot_bytes}
+use Rattle.meaning.specs.Rounds.{Progress, Way, holds, outside, held_after, recorded, turn, round, rounds}
+use Rattle.laws.proofs.Turns.{for_each-keeps}
 use Rattle.laws.proofs.Moving.{weigh}
 use Rattle.laws.proofs.Modes.{may-holds}
-use Rattle.chosen.specs.TurnSlot.{turnSlots}
+use Rattle.chosen.specs.TurnSlot.{turn_slots}
 use Rattle.plan.specs.ColourTurn.{Ready}
-use Rattle.plan.specs.TurnByTurn.{wayBy, from, slots_by, Going, Filled}
+use Rattle.plan.specs.TurnByTurn.{way_by, from, slots_by, Going, Filled}
 use Rattle.plan.proofs.ColourTurn.{ready-next, turn-sent}
 use Rattle.plan.proofs.TurnByTurn.{put-behind}
 
 module _ (by : code.Way) (table : List (List Bool)) where
   abbrev way : Way
-  way = wayBy by table
+  way = way_by by table
 
   abbrev energy : List ℕ → ℕ
-  energy held = weigh (levelBy by.probes way.goes) held
+  energy held = weigh (level_by by.probes way.goes) held
 
   -- a yard to plan, with `all` sendings to make: each slot made has taken one of them at least
   record Spent (all : ℕ) (now : Progress) : Type 0 where
@@ -37,18 +37,18 @@ module _ (by : code.Way) (table : List (List Bool)) where
   ready-own held room r = record { small = r.small; long = r.long; few = r.few; up = r.up; fits = omega arith }
 
   spent-turn : (all s : ℕ) (now : Progress) → Spent all now → Spent all (recorded way.goes (turn way s now.held) now)
-  unfolding turnSlots recorded
+  unfolding turn_slots recorded
   spent-turn all s now spent =
       record {
         ready =
-            ready-own (heldAfter way.goes now.held made) _
-            (ready-next by.probes way.goes now.held (2 * energy now.held) spent.ready may has way.relation (byNode by.own) s);
+            ready-own (held_after way.goes now.held made) _
+            (ready-next by.probes way.goes now.held (2 * energy now.held) spent.ready may has way.relation (by_node by.own) s);
         fewer =
             omega (
               arith,
               spent.fewer,
               length-append now.slots made,
-              turn-sent by.probes way.goes now.held (2 * energy now.held) spent.ready may has way.relation (byNode by.own) s,
+              turn-sent by.probes way.goes now.held (2 * energy now.held) spent.ready may has way.relation (by_node by.own) s,
             );
       }
     where
@@ -59,12 +59,12 @@ module _ (by : code.Way) (table : List (List Bool)) where
       may = way.may now.held
 
       has : (v : ℕ) → holds may v ≡ true → holds now.held v ≡ true
-      has = may-holds by.mode by.probes (byNode by.parents) now.held
+      has = may-holds by.mode by.probes (by_node by.parents) now.held
 
   spent-round : (all : ℕ) (now : Progress) → Spent all now → Spent all (round way now)
   unfolding round
   spent-round all now spent =
-      forEach-keeps (Spent all) by.colours (λ s then. recorded way.goes (turn way (s + 1) then.held) then) now spent
+      for_each-keeps (Spent all) by.colours (λ s then. recorded way.goes (turn way (s + 1) then.held) then) now spent
       (λ s _ then h. spent-turn all (s + 1) then h)
 
   -- a plan has no more slots than sendings
@@ -73,7 +73,7 @@ module _ (by : code.Way) (table : List (List Bool)) where
   slots-most held room sendings ready =
       omega (
         arith,
-        (forEach-keeps (Spent (energy held)) sendings (λ _ now. cond (outside by.probes now.held) (round way now) now) (from held)
+        (for_each-keeps (Spent (energy held)) sendings (λ _ now. cond (outside by.probes now.held) (round way now) now) (from held)
             (record { ready = ready-own held room ready; fewer = omega arith })
             (λ _ _ now h. go (outside by.probes now.held) now h)).fewer,
       )
@@ -99,8 +99,8 @@ filled p parent now held d part bytes slots h few going =
       made = going.made;
       counted = omega (arith, going.counted);
       wrote =
-          two-in-front d part (slotBytes now.slots) (slots / 256 % 256) (slots % 256) h going.wrote
-          ∙ ap₂ (λ (hi lo : ℕ). front d (hi ∷ lo ∷ slotBytes now.slots)) high (ap (λ (n : ℕ). n % 256) going.made);
+          two-in-front d part (slot_bytes now.slots) (slots / 256 % 256) (slots % 256) h going.wrote
+          ∙ ap₂ (λ (hi lo : ℕ). front d (hi ∷ lo ∷ slot_bytes now.slots)) high (ap (λ (n : ℕ). n % 256) going.made);
     }
   where
     high : slots / 256 % 256 ≡ length now.slots / 256

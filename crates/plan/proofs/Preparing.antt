@@ -11,14 +11,14 @@ use Rattle.meaning.specs.declared.Mode.TheVariants.{Packets, Merged}
 use Rattle.meaning.specs.declared.Outcome.{Outcome}
 use Rattle.sheet.specs.declared.Tree.{Tree}
 use Rattle.meaning.specs.Plan.{room_for}
-use Rattle.meaning.specs.Rounds.{sendingsIn}
-use Rattle.meaning.specs.Answer.{accepted, isAccepted, given, ◌then◌, sheetTest}
+use Rattle.meaning.specs.Rounds.{sendings_in}
+use Rattle.meaning.specs.Answer.{accepted, is_accepted, given, ◌then◌, sheet_test}
 use Rattle.laws.proofs.Slots.{true-or-false}
 use Rattle.laws.proofs.Accepted.{then-stays, then-goes}
 use Rattle.sheet.specs.Tree.{tree_of}
 use Rattle.sheet.proofs.Standing.{Standing, standing, outcome-read}
-use Rattle.plan.specs.TurnByTurn.{sendingsBy}
-use Rattle.plan.specs.Answered.{groundTest, prepared}
+use Rattle.plan.specs.TurnByTurn.{sendings_by}
+use Rattle.plan.specs.Answered.{ground_test, prepared}
 
 module _ (outcome : Outcome) (room sendings : ℕ) (passed : outcome.number ≡ 0) where
   pub room-short : room < 2 + 2 * sendings → record { number = 9; place = 0 } ≡ (outcome then given 9 0 (ltb room (room_for sendings)))
@@ -32,26 +32,26 @@ module _ (outcome : Outcome) (room sendings : ℕ) (passed : outcome.number ≡ 
       ∙ ap (λ (b : Bool). given 9 0 b) (le-ltb room (room_for sendings) h))
 
 -- the sendings that a tree tells, which are the sheet's
-pub sendings-read : (mode : Mode) (s : List ℕ) (tree : Tree) → Standing s tree → sendingsBy mode tree.probes tree.hops ≡ sendingsIn mode s
+pub sendings-read : (mode : Mode) (s : List ℕ) (tree : Tree) → Standing s tree → sendings_by mode tree.probes tree.hops ≡ sendings_in mode s
 sendings-read Packets s tree its = its.hops
 sendings-read Merged s tree its = its.probes
 
 module _ (mode : Mode) (s : List ℕ) (room : ℕ) where
   -- the room by the sendings of the tree
   abbrev roomed : Tree → Outcome
-  roomed tree = tree.outcome then given 9 0 (ltb room (room_for (sendingsBy mode tree.probes tree.hops)))
+  roomed tree = tree.outcome then given 9 0 (ltb room (room_for (sendings_by mode tree.probes tree.hops)))
 
-  tested : roomed (tree_of s) ≡ groundTest mode s room
+  tested : roomed (tree_of s) ≡ ground_test mode s room
   tested =
-      ap (λ (o : Outcome). o then given 9 0 (ltb room (room_for (sendingsBy mode (tree_of s).probes (tree_of s).hops)))) (outcome-read s (tree_of s) refl)
+      ap (λ (o : Outcome). o then given 9 0 (ltb room (room_for (sendings_by mode (tree_of s).probes (tree_of s).hops)))) (outcome-read s (tree_of s) refl)
       ∙ ⊎_elim
-      (λ (ok : isAccepted (sheetTest s) ≡ true).
-      ap (λ (n : ℕ). sheetTest s then given 9 0 (ltb room (room_for n))) (sendings-read mode s (tree_of s) (standing s ok (tree_of s) refl)))
-      (λ (no : isAccepted (sheetTest s) ≡ false). then-stays (sheetTest s) _ no ∙ sym (then-stays (sheetTest s) _ no))
-      (true-or-false (isAccepted (sheetTest s)))
+      (λ (ok : is_accepted (sheet_test s) ≡ true).
+      ap (λ (n : ℕ). sheet_test s then given 9 0 (ltb room (room_for n))) (sendings-read mode s (tree_of s) (standing s ok (tree_of s) refl)))
+      (λ (no : is_accepted (sheet_test s) ≡ false). then-stays (sheet_test s) _ no ∙ sym (then-stays (sheet_test s) _ no))
+      (true-or-false (is_accepted (sheet_test s)))
 
   -- what is read and tested so
-  pub prepares : (tree : Tree) (sendings : ℕ) (outcome : Outcome) → tree ≡ tree_of s → sendings ≡ sendingsBy mode tree.probes tree.hops
+  pub prepares : (tree : Tree) (sendings : ℕ) (outcome : Outcome) → tree ≡ tree_of s → sendings ≡ sendings_by mode tree.probes tree.hops
       → outcome ≡ (tree.outcome then given 9 0 (ltb room (room_for sendings)))
       → record {
         outcome = outcome;
@@ -65,7 +65,7 @@ module _ (mode : Mode) (s : List ℕ) (room : ℕ) where
   unfolding prepared
   prepares tree sendings outcome is many e = rw (e, many, is, tested)
 
-  pub stands : isAccepted (sheetTest s) ≡ true → Standing s (prepared mode s room)
+  pub stands : is_accepted (sheet_test s) ≡ true → Standing s (prepared mode s room)
   unfolding prepared
   stands ok =
       let its = standing s ok (tree_of s) refl in

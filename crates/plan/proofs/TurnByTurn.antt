@@ -9,16 +9,16 @@ use lib.ListN.{length, take, drop, length-append, length-drop, drop_of_length-le
 use borrow.Rule.Slice.PartMut.{put_mid}
 use lib.Seq.{take_all, take_at, drop_at, drop-drop}
 use Rattle.plan.specs.declared.Way as code
-use Rattle.meaning.specs.Words.{forEach, byNode}
-use Rattle.meaning.specs.Plan.{front, slotBytes}
-use Rattle.meaning.specs.Rounds.{Progress, Way, holds, heldAfter, recorded, turn, round, rounds, outside}
-use Rattle.laws.proofs.Turns.{forEach-one, forEach-stays}
+use Rattle.meaning.specs.Words.{for_each, by_node}
+use Rattle.meaning.specs.Plan.{front, slot_bytes}
+use Rattle.meaning.specs.Rounds.{Progress, Way, holds, held_after, recorded, turn, round, rounds, outside}
+use Rattle.laws.proofs.Turns.{for_each-one, for_each-stays}
 use Rattle.laws.proofs.Lists.{length_front}
 use Rattle.laws.proofs.Exact.{slot-bytes-append}
 use Rattle.laws.proofs.Modes.{may-holds}
-use Rattle.chosen.specs.TurnSlot.{turnSlots, turnBy}
+use Rattle.chosen.specs.TurnSlot.{turn_slots, turn_by}
 use Rattle.plan.specs.ColourTurn.{Ready, Turned}
-use Rattle.plan.specs.TurnByTurn.{goesBy, wayBy, from, roundBy, Going}
+use Rattle.plan.specs.TurnByTurn.{goes_by, way_by, from, round_by, Going}
 use Rattle.plan.proofs.ColourTurn.{ready-next, turn-bytes, turn-count, turn-fewer}
 
 -- what is written into the part behind `at` stands behind what was written before
@@ -31,7 +31,7 @@ front-front d xs ys at e =
 -- the buffer keeps its length
 pub going-long : {p : ℕ} {parent : ℕ → ℕ} {now : Progress} {held rest₀ rest : List ℕ} {at slots : ℕ} → Going p parent now held rest₀ rest at slots
     → length rest ≡ length rest₀
-going-long {now} {rest₀} going = ap length going.wrote ∙ length_front rest₀ (slotBytes now.slots) (omega (arith, going.counted, going.within))
+going-long {now} {rest₀} going = ap length going.wrote ∙ length_front rest₀ (slot_bytes now.slots) (omega (arith, going.counted, going.within))
 
 -- the part from `at` on, as the code lends it
 pub part-from : (l : List ℕ) (at : ℕ) → take (length l - at) (drop at l) ≡ drop at l
@@ -45,34 +45,34 @@ put-behind l part at h =
 
 module _ (by : code.Way) (table : List (List Bool)) where
   abbrev way : Way
-  way = wayBy by table
+  way = way_by by table
 
   abbrev parent : ℕ → ℕ
-  parent = goesBy by
+  parent = goes_by by
 
   -- who may send holds something
   has : (held : List ℕ) (v : ℕ) → holds (way.may held) v ≡ true → holds held v ≡ true
-  has = may-holds by.mode by.probes (byNode by.parents)
+  has = may-holds by.mode by.probes (by_node by.parents)
 
   -- the first k turns of a round
   unfoldable pub turns : ℕ → List ℕ → Progress
-  turns k held = forEach k (λ s now. recorded parent (turn way (s + 1) now.held) now) (from held)
+  turns k held = for_each k (λ s now. recorded parent (turn way (s + 1) now.held) now) (from held)
 
-  pub turns-all : (held : List ℕ) → turns by.colours held ≡ roundBy by table held
+  pub turns-all : (held : List ℕ) → turns by.colours held ≡ round_by by table held
   unfolding turns round
   turns-all held = refl
 
   -- what the turn that follows them makes
-  abbrev nextTurn : ℕ → List ℕ → List (List ℕ)
-  nextTurn k held = turnBy by.probes table by.own (k + 1) (way.may (turns k held).held)
+  abbrev next_turn : ℕ → List ℕ → List (List ℕ)
+  next_turn k held = turn_by by.probes table by.own (k + 1) (way.may (turns k held).held)
 
   turns_next : (k : ℕ) (held : List ℕ) → turns (k + 1) held
-      ≡ record { held = heldAfter parent (turns k held).held (nextTurn k held); slots = (turns k held).slots ++ nextTurn k held }
-  unfolding turns turnSlots recorded
-  turns_next k held = forEach-one k (λ s now. recorded parent (turn way (s + 1) now.held) now) (from held)
+      ≡ record { held = held_after parent (turns k held).held (next_turn k held); slots = (turns k held).slots ++ next_turn k held }
+  unfolding turns turn_slots recorded
+  turns_next k held = for_each-one k (λ s now. recorded parent (turn way (s + 1) now.held) now) (from held)
 
   pub going_start : (held rest : List ℕ) → Ready by.probes parent held (length rest) → Going by.probes parent (turns 0 held) held rest rest 0 0
-  unfolding turns forEach slotBytes
+  unfolding turns for_each slot_bytes
   going_start held rest ready =
       record {
         holding = refl;
@@ -87,32 +87,32 @@ module _ (by : code.Way) (table : List (List Bool)) where
   -- one more turn, whose slot is written into the part from `at` on
   pub going_next : (k : ℕ) (held₀ held rest₀ rest : List ℕ) (at slots : ℕ) → Going by.probes parent (turns k held₀) held rest₀ rest at slots
       → (held' part : List ℕ) (bytes : ℕ)
-      → Turned parent (turnBy by.probes table by.own (k + 1) (way.may held)) held held' (take (length rest - at) (drop at rest)) part bytes
+      → Turned parent (turn_by by.probes table by.own (k + 1) (way.may held)) held held' (take (length rest - at) (drop at rest)) part bytes
       → (more : ℕ) → more ≡ cond (eqb bytes 0) 0 1
       → Going by.probes parent (turns (k + 1) held₀) held' rest₀ (put_mid at (length rest - at) rest part) (at + bytes) (slots + more)
   going_next k held₀ held rest₀ rest at slots now held' part bytes lent more count =
       subst₂ (λ (then : Progress) (r : List ℕ). Going by.probes parent then held' rest₀ r (at + bytes) (slots + more)) (sym (turns_next k held₀))
       (sym (put-behind rest part at (omega (arith, going-long now, now.within))))
       (record {
-        holding = turned.moves ∙ ap (λ (h : List ℕ). heldAfter parent h (makes h)) now.holding;
+        holding = turned.moves ∙ ap (λ (h : List ℕ). held_after parent h (makes h)) now.holding;
         counted =
-            ap₂ ◌+◌ now.counted (turned.counted ∙ ap (λ (h : List ℕ). length (slotBytes (makes h))) now.holding)
-            ∙ sym (length-append (slotBytes done) (slotBytes (makes before)))
+            ap₂ ◌+◌ now.counted (turned.counted ∙ ap (λ (h : List ℕ). length (slot_bytes (makes h))) now.holding)
+            ∙ sym (length-append (slot_bytes done) (slot_bytes (makes before)))
             ∙ ap length (sym (slot-bytes-append done (makes before)));
         made =
             ap₂ ◌+◌ now.made (one_more ∙ ap (λ (h : List ℕ). length (makes h)) now.holding)
             ∙ sym (length-append done (makes before));
         wrote =
-            ap (λ (l : List ℕ). take at rest ++ l) (turned.wrote ∙ ap (λ (h : List ℕ). front (drop at rest) (slotBytes (makes h))) now.holding)
-            ∙ ap (λ (l : List ℕ). take at l ++ front (drop at l) (slotBytes (makes before))) now.wrote
-            ∙ front-front rest₀ (slotBytes done) (slotBytes (makes before)) at now.counted
+            ap (λ (l : List ℕ). take at rest ++ l) (turned.wrote ∙ ap (λ (h : List ℕ). front (drop at rest) (slot_bytes (makes h))) now.holding)
+            ∙ ap (λ (l : List ℕ). take at l ++ front (drop at l) (slot_bytes (makes before))) now.wrote
+            ∙ front-front rest₀ (slot_bytes done) (slot_bytes (makes before)) at now.counted
             ∙ ap (front rest₀) (sym (slot-bytes-append done (makes before)));
         within =
             omega (
               arith,
               now.within,
               turned.counted,
-              turn-bytes by.probes parent held (length rest₀ - at) now.ready (way.may held) (has held) way.relation (byNode by.own) (k + 1),
+              turn-bytes by.probes parent held (length rest₀ - at) now.ready (way.may held) (has held) way.relation (by_node by.own) (k + 1),
             );
         fewer =
             omega (
@@ -120,11 +120,11 @@ module _ (by : code.Way) (table : List (List Bool)) where
               now.fewer,
               turned.counted,
               one_more,
-              turn-fewer by.probes parent held (length rest₀ - at) now.ready (way.may held) (has held) way.relation (byNode by.own) (k + 1),
+              turn-fewer by.probes parent held (length rest₀ - at) now.ready (way.may held) (has held) way.relation (by_node by.own) (k + 1),
             );
         ready =
             subst₂ (λ (h : List ℕ) (r : ℕ). Ready by.probes parent h r) (sym turned.moves) room
-            (ready-next by.probes parent held (length rest₀ - at) now.ready (way.may held) (has held) way.relation (byNode by.own) (k + 1));
+            (ready-next by.probes parent held (length rest₀ - at) now.ready (way.may held) (has held) way.relation (by_node by.own) (k + 1));
       })
     where
       before : List ℕ
@@ -134,7 +134,7 @@ module _ (by : code.Way) (table : List (List Bool)) where
       done = (turns k held₀).slots
 
       makes : List ℕ → List (List ℕ)
-      makes h = turnBy by.probes table by.own (k + 1) (way.may h)
+      makes h = turn_by by.probes table by.own (k + 1) (way.may h)
 
       turned : Turned parent (makes held) held held' (drop at rest) part bytes
       turned = subst (λ (from' : List ℕ). Turned parent (makes held) held held' from' part bytes) (part-from rest at) lent
@@ -142,9 +142,9 @@ module _ (by : code.Way) (table : List (List Bool)) where
       one_more : more ≡ length (makes held)
       one_more =
           count ∙ ap (λ (b : ℕ). cond (eqb b 0) 0 1) turned.counted
-          ∙ sym (turn-count by.probes parent held (length rest₀ - at) now.ready (way.may held) (has held) way.relation (byNode by.own) (k + 1))
+          ∙ sym (turn-count by.probes parent held (length rest₀ - at) now.ready (way.may held) (has held) way.relation (by_node by.own) (k + 1))
 
-      room : (length rest₀ - at) - length (slotBytes (makes held)) ≡ length rest₀ - (at + bytes)
+      room : (length rest₀ - at) - length (slot_bytes (makes held)) ≡ length rest₀ - (at + bytes)
       room = omega (arith, turned.counted)
 
 -- a round only adds to the slots that are there
@@ -159,20 +159,20 @@ module _ (way : Way) where
   turn-behind : (s : ℕ) (slots : List (List ℕ)) (now : Progress) → next s (behind slots now) ≡ behind slots (next s now)
   unfolding next recorded
   turn-behind s slots now =
-      λ i. record { held = heldAfter way.goes now.held made; slots = append_assoc slots now.slots made i }
+      λ i. record { held = held_after way.goes now.held made; slots = append_assoc slots now.slots made i }
     where
       made : List (List ℕ)
       made = turn way (s + 1) now.held
 
-  turns-behind : (k : ℕ) (slots : List (List ℕ)) (now : Progress) → forEach k next (behind slots now) ≡ behind slots (forEach k next now)
-  unfolding forEach
+  turns-behind : (k : ℕ) (slots : List (List ℕ)) (now : Progress) → for_each k next (behind slots now) ≡ behind slots (for_each k next now)
+  unfolding for_each
   turns-behind zero slots now = refl
-  turns-behind (suc k) slots now = ap (next k) (turns-behind k slots now) ∙ turn-behind k slots (forEach k next now)
+  turns-behind (suc k) slots now = ap (next k) (turns-behind k slots now) ∙ turn-behind k slots (for_each k next now)
 
   pub round-behind : (now : Progress) → round way now ≡ behind now.slots (round way (from now.held))
   unfolding round next
   round-behind now =
-      ap (forEach way.colours next) (λ i. record { held = now.held; slots = sym (append-nil now.slots) i })
+      ap (for_each way.colours next) (λ i. record { held = now.held; slots = sym (append-nil now.slots) i })
       ∙ turns-behind way.colours now.slots (from now.held)
 
 -- progress behind progress
@@ -183,13 +183,13 @@ going-behind p parent now then held rest₀ rest at slots first held' part bytes
     record {
       holding = second.holding;
       counted =
-          ap₂ ◌+◌ first.counted second.counted ∙ sym (length-append (slotBytes now.slots) (slotBytes then.slots))
+          ap₂ ◌+◌ first.counted second.counted ∙ sym (length-append (slot_bytes now.slots) (slot_bytes then.slots))
           ∙ ap length (sym (slot-bytes-append now.slots then.slots));
       made = ap₂ ◌+◌ first.made second.made ∙ sym (length-append now.slots then.slots);
       wrote =
           ap (λ (l : List ℕ). take at rest ++ l) second.wrote
-          ∙ ap (λ (l : List ℕ). take at l ++ front (drop at l) (slotBytes then.slots)) first.wrote
-          ∙ front-front rest₀ (slotBytes now.slots) (slotBytes then.slots) at first.counted
+          ∙ ap (λ (l : List ℕ). take at l ++ front (drop at l) (slot_bytes then.slots)) first.wrote
+          ∙ front-front rest₀ (slot_bytes now.slots) (slot_bytes then.slots) at first.counted
           ∙ ap (front rest₀) (sym (slot-bytes-append now.slots then.slots));
       within = omega (arith, first.within, second.within, left);
       fewer = omega (arith, first.fewer, second.fewer);
@@ -202,14 +202,14 @@ going-behind p parent now then held rest₀ rest at slots first held' part bytes
 -- rounds, while anything is outside the gateway
 module _ (by : code.Way) (table : List (List Bool)) where
   abbrev road : Way
-  road = wayBy by table
+  road = way_by by table
 
   step : ℕ → Progress → Progress
   step _ now = cond (outside by.probes now.held) (round road now) now
 
   pub rounds-start : (held rest : List ℕ) → Ready by.probes road.goes held (length rest)
       → Going by.probes road.goes (rounds road 0 (from held)) held rest rest 0 0
-  unfolding rounds forEach turns
+  unfolding rounds for_each turns
   rounds-start held rest ready = going_start by table held rest ready
 
   -- with nothing outside, the rounds that are left change nothing
@@ -217,14 +217,14 @@ module _ (by : code.Way) (table : List (List Bool)) where
       → rounds road n (from held) ≡ rounds road r (from held)
   unfolding rounds step
   rounds-stop r n held h e =
-      forEach-stays r n step (from held) (forEach r step (from held)) h refl
-      (λ k _ _. ap (λ (b : Bool). cond b (round road (forEach r step (from held))) (forEach r step (from held))) e)
+      for_each-stays r n step (from held) (for_each r step (from held)) h refl
+      (λ k _ _. ap (λ (b : Bool). cond b (round road (for_each r step (from held))) (for_each r step (from held))) e)
 
   rounds-next : (r : ℕ) (held : List ℕ) → outside by.probes (rounds road r (from held)).held ≡ true
       → rounds road (r + 1) (from held) ≡ round road (rounds road r (from held))
   unfolding rounds step
   rounds-next r held e =
-      forEach-one r step (from held) ∙ ap (λ (b : Bool). cond b (round road (forEach r step (from held))) (forEach r step (from held))) e
+      for_each-one r step (from held) ∙ ap (λ (b : Bool). cond b (round road (for_each r step (from held))) (for_each r step (from held))) e
 
   pub going-round : (r : ℕ) (held₀ held rest₀ rest : List ℕ) (at slots : ℕ)
       → Going by.probes road.goes (rounds road r (from held₀)) held rest₀ rest at slots

@@ -3,33 +3,33 @@ use Rattle.std.specs.Prelude.{◌≡◌, Bool, List, [], ℕ, ◌-◌, ◌≤◌
 use Rattle.meaning.specs.declared.Mode.{Mode}
 use Rattle.meaning.specs.declared.Mode.TheVariants.{Packets, Merged}
 use Rattle.plan.specs.declared.Way as code
-use Rattle.meaning.specs.Words.{byNode}
-use Rattle.meaning.specs.Yard.{levelBy}
-use Rattle.meaning.specs.Plan.{front, slotBytes, planBytes}
+use Rattle.meaning.specs.Words.{by_node}
+use Rattle.meaning.specs.Yard.{level_by}
+use Rattle.meaning.specs.Plan.{front, slot_bytes, plan_bytes}
 use Rattle.meaning.specs.Conflict.{entry}
-use Rattle.meaning.specs.Rounds.{Progress, Way, mayIn, goesIn, ownersByLevel, round, rounds}
-use Rattle.laws.specs.Few.{atMost63}
+use Rattle.meaning.specs.Rounds.{Progress, Way, may_in, goes_in, owners_by_level, round, rounds}
+use Rattle.laws.specs.Few.{at_most63}
 use Rattle.laws.proofs.Moving.{weigh}
-use Rattle.sending.specs.First.{firstHeld}
+use Rattle.sending.specs.First.{first_held}
 use Rattle.plan.specs.ColourTurn.{Ready}
 
 -- the code's way, field by field
-abbrev pub codeWay : Mode → (p : ℕ) → (parents own : List ℕ) → (m : ℕ) → code.Way
-codeWay mode p parents own m = record { mode = mode; probes = p; parents = parents; own = own; colours = m }
+abbrev pub code_way : Mode → (p : ℕ) → (parents own : List ℕ) → (m : ℕ) → code.Way
+code_way mode p parents own m = record { mode = mode; probes = p; parents = parents; own = own; colours = m }
 
 -- where what is sent goes on it
-abbrev pub goesBy : code.Way → ℕ → ℕ
-goesBy by = goesIn by.mode (byNode by.parents)
+abbrev pub goes_by : code.Way → ℕ → ℕ
+goes_by by = goes_in by.mode (by_node by.parents)
 
 -- with the table, what it means: `own` is each probe's colour, or that of its level
-abbrev pub wayBy : code.Way → (table : List (List Bool)) → Way
-wayBy by table =
+abbrev pub way_by : code.Way → (table : List (List Bool)) → Way
+way_by by table =
     record {
       probes = by.probes;
-      goes = goesBy by;
+      goes = goes_by by;
       relation = entry table;
-      may = mayIn by.mode by.probes (byNode by.parents);
-      owners = ownersByLevel by.probes (entry table) (byNode by.own);
+      may = may_in by.mode by.probes (by_node by.parents);
+      owners = owners_by_level by.probes (entry table) (by_node by.own);
       colours = by.colours;
     }
 
@@ -38,40 +38,40 @@ abbrev pub from : List ℕ → Progress
 from held = record { held = held; slots = [] }
 
 -- a round that begins with what is held
-abbrev pub roundBy : code.Way → (table : List (List Bool)) → (held : List ℕ) → Progress
-roundBy by table held = round (wayBy by table) (from held)
+abbrev pub round_by : code.Way → (table : List (List Bool)) → (held : List ℕ) → Progress
+round_by by table held = round (way_by by table) (from held)
 
 -- the progress as the code has it: what is held, the slots at the start of the rest, their bytes and number; and what the next turn may count on
 pub record Going (p : ℕ) (parent : ℕ → ℕ) (now : Progress) (held rest rest' : List ℕ) (bytes slots : ℕ) : Type 0 where
   pub holding : held ≡ now.held
-  pub counted : bytes ≡ length (slotBytes now.slots)
+  pub counted : bytes ≡ length (slot_bytes now.slots)
   pub made : slots ≡ length now.slots
-  pub wrote : rest' ≡ front rest (slotBytes now.slots)
+  pub wrote : rest' ≡ front rest (slot_bytes now.slots)
   pub within : bytes ≤ length rest
   pub fewer : slots ≤ bytes
   pub ready : Ready p parent held (length rest - bytes)
 
 -- what is held before the first slot, and how many sendings bring it in: the packets and their hops, or one reading a probe
-abbrev pub heldBy : Mode → ℕ → List ℕ → List ℕ
-heldBy mode p packets = firstHeld mode (atMost63 p) packets
+abbrev pub held_by : Mode → ℕ → List ℕ → List ℕ
+held_by mode p packets = first_held mode (at_most63 p) packets
 
-abbrev pub sendingsBy : Mode → ℕ → ℕ → ℕ
-sendingsBy Packets p hops = hops
-sendingsBy Merged p hops = p
+abbrev pub sendings_by : Mode → ℕ → ℕ → ℕ
+sendings_by Packets p hops = hops
+sendings_by Merged p hops = p
 
 -- the slots of the plan that begins with what is held
 abbrev pub slots_by : code.Way → (table : List (List Bool)) → (sendings : ℕ) → (held : List ℕ) → List (List ℕ)
-slots_by by table sendings held = (rounds (wayBy by table) sendings (from held)).slots
+slots_by by table sendings held = (rounds (way_by by table) sendings (from held)).slots
 
 -- what the filling of a buffer may count on: what its first turn may, behind two bytes, and sendings that two bytes can say
 pub record ToFill (mode : Mode) (p : ℕ) (parents packets : List ℕ) (room : ℕ) : Type 0 where
   pub two : 2 ≤ room
-  pub ready : Ready p (goesIn mode (byNode parents)) (heldBy mode p packets) (room - 2)
-  pub few : weigh (levelBy p (goesIn mode (byNode parents))) (heldBy mode p packets) ≤ 65535
+  pub ready : Ready p (goes_in mode (by_node parents)) (held_by mode p packets) (room - 2)
+  pub few : weigh (level_by p (goes_in mode (by_node parents))) (held_by mode p packets) ≤ 65535
 
 -- the plan is written: its bytes at the start of the buffer, and behind them what was there
 pub record Filled (plan : List (List ℕ)) (buffer buffer' : List ℕ) (bytes slots : ℕ) : Type 0 where
   pub few : length plan ≤ 65535
   pub made : slots ≡ length plan
-  pub counted : bytes ≡ length (planBytes plan)
-  pub wrote : buffer' ≡ front buffer (planBytes plan)
+  pub counted : bytes ≡ length (plan_bytes plan)
+  pub wrote : buffer' ≡ front buffer (plan_bytes plan)

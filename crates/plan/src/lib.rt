@@ -1,13 +1,13 @@
 // The planners of packets, by probe and by level, and of merged readings: a sheet and a lent buffer in, the plan or a numbered refusal out.
 ghost use Rattle.std.specs.Prelude.{◌≡◌, cond, eqb, ltb, length, get_or};
-ghost use Rattle.meaning.specs.Words.{tab, places, byNode};
+ghost use Rattle.meaning.specs.Words.{tab, places, by_node};
 ghost use Rattle.meaning.specs.Plan.{room_for, front};
-ghost use Rattle.meaning.specs.Answer.{given, ◌then◌, planMadeIn, planMade, mergedMade};
-ghost use Rattle.meaning.specs.Rounds.{mayIn, goesIn, rounds, byProbeIn, byProbe, byLevel};
-ghost use Rattle.chosen.specs.TurnSlot.{turnBy};
+ghost use Rattle.meaning.specs.Answer.{given, ◌then◌, plan_made_in, plan_made, merged_made};
+ghost use Rattle.meaning.specs.Rounds.{may_in, goes_in, rounds, by_probe_in, by_probe, by_level};
+ghost use Rattle.chosen.specs.TurnSlot.{turn_by};
 ghost use Rattle.plan.specs.ColourTurn.{Ready, Turned};
-ghost use Rattle.plan.specs.TurnByTurn.{codeWay, goesBy, wayBy, from, roundBy, Going, heldBy, sendingsBy, slots_by, ToFill, Filled};
-ghost use Rattle.plan.specs.Answered.{prepared, slotsOn, Finished};
+ghost use Rattle.plan.specs.TurnByTurn.{code_way, goes_by, way_by, from, round_by, Going, held_by, sendings_by, slots_by, ToFill, Filled};
+ghost use Rattle.plan.specs.Answered.{prepared, slots_on, Finished};
 
 use meaning::{Colour, Mode, Outcome, Planned};
 use sheet::Tree;
@@ -40,9 +40,9 @@ fn turn<'a>(
     held: &mut [u16; 65],
     rest: &mut [u8],
 ) -> usize
-    requires { Ready p (goesIn mode (byNode parents.now)) held.old (length rest.old) }
-    ensures { Turned (goesIn mode (byNode parents.now))
-        (turnBy p table.now own.now s.0 (mayIn mode p (byNode parents.now) held.old))
+    requires { Ready p (goes_in mode (by_node parents.now)) held.old (length rest.old) }
+    ensures { Turned (goes_in mode (by_node parents.now))
+        (turn_by p table.now own.now s.0 (may_in mode p (by_node parents.now) held.old))
         held.old held.new rest.old rest.new result }
 {
     let bytes = match mode {
@@ -80,9 +80,9 @@ fn round<'a>(
     held: &mut [u16; 65],
     rest: &mut [u8],
 ) -> Made
-    requires { Ready p (goesIn mode (byNode parents.now)) held.old (length rest.old) }
-    ensures { Going p (goesIn mode (byNode parents.now))
-        (roundBy (codeWay mode p parents.now own.now m) table.now held.old)
+    requires { Ready p (goes_in mode (by_node parents.now)) held.old (length rest.old) }
+    ensures { Going p (goes_in mode (by_node parents.now))
+        (round_by (code_way mode p parents.now own.now m) table.now held.old)
         held.new rest.old rest.new result.bytes result.slots }
 {
     let mut at: usize = 0;
@@ -114,8 +114,8 @@ fn run(
     held: &mut [u16; 65],
     rest: &mut [u8],
 ) -> Made
-    requires { Ready way.probes (goesBy way) held.old (length rest.old) }
-    ensures { Going way.probes (goesBy way) (rounds (wayBy way table.now) sendings (from held.old))
+    requires { Ready way.probes (goes_by way) held.old (length rest.old) }
+    ensures { Going way.probes (goes_by way) (rounds (way_by way table.now) sendings (from held.old))
         held.new rest.old rest.new result.bytes result.slots }
 {
     let mode = way.mode;
@@ -147,7 +147,7 @@ fn run(
 
 // How many sendings bring everything in: the hops, or one a probe.
 fn sendings_in(mode: Mode, p: u8, hops: u32) -> u32
-    ensures { result ≡ sendingsBy mode p hops }
+    ensures { result ≡ sendings_by mode p hops }
 {
     match mode {
         Mode::Packets => hops,
@@ -158,7 +158,7 @@ fn sendings_in(mode: Mode, p: u8, hops: u32) -> u32
 // Writes the plan: its slots behind two bytes, and then their number into those.
 fn fill(way: Way, packets: [u8; 65], table: [[bool; 65]; 65], sendings: u32, buf: &mut [u8]) -> Made
     requires { ToFill way.mode way.probes way.parents packets (length buf.old) }
-    ensures { Filled (slots_by way table sendings (heldBy way.mode way.probes packets))
+    ensures { Filled (slots_by way table sendings (held_by way.mode way.probes packets))
         buf.old buf.new result.bytes result.slots }
 {
     let mode = way.mode;
@@ -210,7 +210,7 @@ fn finish(
     buf: &mut [u8],
 ) -> Planned
     requires { ToFill mode tree.probes tree.parents tree.packets (length buf.old) }
-    ensures { Finished (slotsOn mode tree table own m) m buf.old buf.new result }
+    ensures { Finished (slots_on mode tree table own m) m buf.old buf.new result }
 {
     let p = tree.probes;
     let parents = tree.parents;
@@ -254,9 +254,9 @@ fn colours_by_level(levels: [u8; 65], colours: [u8; 65]) -> [u8; 65]
 
 // The plan by probe of any sheet, of packets or of merged readings, into any buffer, or a numbered refusal.
 fn by_probe_in(mode: Mode, sheet: &[u8], buf: &mut [u8]) -> Planned
-    ensures answer { result ≡ (planMadeIn mode (byProbeIn mode) sheet.now (length buf.old)).answer }
+    ensures answer { result ≡ (plan_made_in mode (by_probe_in mode) sheet.now (length buf.old)).answer }
     ensures buffer { buf.new
-        ≡ front buf.old (planMadeIn mode (byProbeIn mode) sheet.now (length buf.old)).written }
+        ≡ front buf.old (plan_made_in mode (by_probe_in mode) sheet.now (length buf.old)).written }
 {
     let tree = prepare(mode, sheet, buf.len());
     let outcome = tree.outcome;
@@ -273,24 +273,24 @@ fn by_probe_in(mode: Mode, sheet: &[u8], buf: &mut [u8]) -> Planned
 
 // The plan by probe of any sheet, into any buffer, or a numbered refusal.
 pub fn by_probe(sheet: &[u8], buf: &mut [u8]) -> Planned
-    ensures answer { result ≡ (planMade byProbe sheet.now (length buf.old)).answer }
-    ensures buffer { buf.new ≡ front buf.old (planMade byProbe sheet.now (length buf.old)).written }
+    ensures answer { result ≡ (plan_made by_probe sheet.now (length buf.old)).answer }
+    ensures buffer { buf.new ≡ front buf.old (plan_made by_probe sheet.now (length buf.old)).written }
 {
     by_probe_in(Mode::Packets, sheet, buf)
 }
 
 // The plan of merged readings of any sheet, into any buffer, or a numbered refusal.
 pub fn merged(sheet: &[u8], buf: &mut [u8]) -> Planned
-    ensures answer { result ≡ (mergedMade sheet.now (length buf.old)).answer }
-    ensures buffer { buf.new ≡ front buf.old (mergedMade sheet.now (length buf.old)).written }
+    ensures answer { result ≡ (merged_made sheet.now (length buf.old)).answer }
+    ensures buffer { buf.new ≡ front buf.old (merged_made sheet.now (length buf.old)).written }
 {
     by_probe_in(Mode::Merged, sheet, buf)
 }
 
 // The plan by level of any sheet, into any buffer, or a numbered refusal.
 pub fn by_level(sheet: &[u8], buf: &mut [u8]) -> Planned
-    ensures answer { result ≡ (planMade byLevel sheet.now (length buf.old)).answer }
-    ensures buffer { buf.new ≡ front buf.old (planMade byLevel sheet.now (length buf.old)).written }
+    ensures answer { result ≡ (plan_made by_level sheet.now (length buf.old)).answer }
+    ensures buffer { buf.new ≡ front buf.old (plan_made by_level sheet.now (length buf.old)).written }
 {
     let tree = prepare(Mode::Packets, sheet, buf.len());
     let outcome = tree.outcome;

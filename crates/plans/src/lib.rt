@@ -1,9 +1,9 @@
 // Plans by the program's arguments: one that was made is written to its file, a judgement is said; and what is asked of merged readings.
 ghost use Rattle.std.specs.Prelude.{◌≡◌, length, replicate};
-ghost use Rattle.meaning.specs.Plan.{anyMerged, decidingMerged};
-ghost use Rattle.meaning.specs.Answer.{mergedMade};
-ghost use Rattle.meaning.specs.Merged.{mergedAsked};
-ghost use Rattle.files.specs.Status.{statusOf, OrFailed};
+ghost use Rattle.meaning.specs.Plan.{any_merged, deciding_merged};
+ghost use Rattle.meaning.specs.Answer.{merged_made};
+ghost use Rattle.meaning.specs.Merged.{merged_asked};
+ghost use Rattle.files.specs.Status.{status_of, OrFailed};
 
 use files::{ANSWERED, FAILED, within};
 use libc::STDOUT_FILENO;
@@ -11,7 +11,7 @@ use meaning::{Judgement, Mode, Planned};
 
 // Writes a plan that was made to its file, and says what it has; a refusal leaves the file alone.
 pub fn write_planned(to: i32, out: usize, planned: Planned, plan: &[u8]) -> u8
-    ensures { OrFailed (statusOf planned.outcome) result }
+    ensures { OrFailed (status_of planned.outcome) result }
 {
     let outcome = planned.outcome;
     if outcome.number == 0 {
@@ -27,7 +27,7 @@ pub fn write_planned(to: i32, out: usize, planned: Planned, plan: &[u8]) -> u8
 
 // Says what a judge says of a plan.
 pub fn say_judgement(mode: Mode, judgement: Judgement) -> u8
-    ensures { OrFailed (statusOf judgement.verdict.outcome) result }
+    ensures { OrFailed (status_of judgement.verdict.outcome) result }
 {
     let verdict = judgement.verdict;
     let mut line = [0u8; wording::ANY_ANSWER];
@@ -37,15 +37,15 @@ pub fn say_judgement(mode: Mode, judgement: Judgement) -> u8
 
 // Room for as much of a merged plan as decides its verdict; all zeros.
 pub fn merged_room() -> [u8; meaning::DECIDING_MERGED]
-    ensures zeros { result ≡ replicate decidingMerged 0 }
-    ensures long { decidingMerged ≡ length result }
+    ensures zeros { result ≡ replicate deciding_merged 0 }
+    ensures long { deciding_merged ≡ length result }
 {
     [0; meaning::DECIDING_MERGED]
 }
 
 // Writes the plan of merged readings to its file, and says what it has; a refusal leaves the file alone.
 pub fn write_merged(to: i32, out: usize, sheet: &[u8]) -> u8
-    ensures { OrFailed (statusOf (mergedMade sheet.now anyMerged).answer.outcome) result }
+    ensures { OrFailed (status_of (merged_made sheet.now any_merged).answer.outcome) result }
 {
     let mut plan = [0u8; meaning::ANY_MERGED];
     let planned = plan::merged(sheet, &mut plan);
@@ -54,7 +54,7 @@ pub fn write_merged(to: i32, out: usize, sheet: &[u8]) -> u8
 
 // Says how long a merged reading of the sheet takes, in minutes too where it is said how long a slot is.
 pub fn say_merged_asked(sheet: &[u8], ms: u16) -> u8
-    ensures { OrFailed (statusOf (mergedAsked sheet.now).outcome) result }
+    ensures { OrFailed (status_of (merged_asked sheet.now).outcome) result }
 {
     let told = merged::ask(sheet);
     let outcome = told.outcome;

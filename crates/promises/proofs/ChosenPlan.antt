@@ -9,21 +9,21 @@ use Rattle.meaning.specs.declared.Verdict.{Verdict}
 use Rattle.meaning.specs.declared.Choice.{Choice}
 use Rattle.meaning.specs.declared.Choice.TheVariants.{Neither, First, Second}
 use Rattle.meaning.specs.Words.{Bytes}
-use Rattle.meaning.specs.Answer.{isAccepted}
-use Rattle.meaning.specs.Judge.{judge, chooseBy, choice, handedBack}
+use Rattle.meaning.specs.Answer.{is_accepted}
+use Rattle.meaning.specs.Judge.{judge, choose_by, choice, handed_back}
 use Rattle.laws.proofs.Walk.{not-both}
 use Rattle.promises.specs.Answers.{Passes}
 
 -- what each choice says of the two verdicts
 abbrev Says : Verdict → Verdict → Choice → Type 0
-Says a b First = (isAccepted a.outcome ≡ true) × (isAccepted b.outcome ≡ true → a.slots ≤ b.slots)
-Says a b Second = (isAccepted b.outcome ≡ true) × (isAccepted a.outcome ≡ true → b.slots < a.slots)
-Says a b Neither = (isAccepted a.outcome ≡ true → ⊥) × (isAccepted b.outcome ≡ true → ⊥)
+Says a b First = (is_accepted a.outcome ≡ true) × (is_accepted b.outcome ≡ true → a.slots ≤ b.slots)
+Says a b Second = (is_accepted b.outcome ≡ true) × (is_accepted a.outcome ≡ true → b.slots < a.slots)
+Says a b Neither = (is_accepted a.outcome ≡ true → ⊥) × (is_accepted b.outcome ≡ true → ⊥)
 
-says : (a b : Verdict) → Says a b (chooseBy a b)
-says a b = go (isAccepted a.outcome) (isAccepted b.outcome) (leb a.slots b.slots) refl refl refl
+says : (a b : Verdict) → Says a b (choose_by a b)
+says a b = go (is_accepted a.outcome) (is_accepted b.outcome) (leb a.slots b.slots) refl refl refl
   where
-    go : (x y z : Bool) → isAccepted a.outcome ≡ x → isAccepted b.outcome ≡ y → leb a.slots b.slots ≡ z
+    go : (x y z : Bool) → is_accepted a.outcome ≡ x → is_accepted b.outcome ≡ y → leb a.slots b.slots ≡ z
         → Says a b (cond (x && (not y || z)) First (cond y Second Neither))
     go true true true ea eb few = (ea, λ _. leb-true a.slots b.slots few)
     go true true false ea eb few = (eb, λ _. leb-false a.slots b.slots few)
@@ -36,11 +36,11 @@ module _ (s a b : Bytes) where
   unfolding choice
   chosen c is = subst (Says (judge s a) (judge s b)) is (says (judge s a) (judge s b))
 
-  pub first-chosen : choice s a b ≡ First → (handedBack (choice s a b) a b ≡ a) × Passes s a × (Passes s b → (judge s a).slots ≤ (judge s b).slots)
-  first-chosen is = (ap (λ (c : Choice). handedBack c a b) is, (chosen First is).0, (chosen First is).1)
+  pub first-chosen : choice s a b ≡ First → (handed_back (choice s a b) a b ≡ a) × Passes s a × (Passes s b → (judge s a).slots ≤ (judge s b).slots)
+  first-chosen is = (ap (λ (c : Choice). handed_back c a b) is, (chosen First is).0, (chosen First is).1)
 
-  pub second-chosen : choice s a b ≡ Second → (handedBack (choice s a b) a b ≡ b) × Passes s b × (Passes s a → (judge s b).slots < (judge s a).slots)
-  second-chosen is = (ap (λ (c : Choice). handedBack c a b) is, (chosen Second is).0, (chosen Second is).1)
+  pub second-chosen : choice s a b ≡ Second → (handed_back (choice s a b) a b ≡ b) × Passes s b × (Passes s a → (judge s b).slots < (judge s a).slots)
+  second-chosen is = (ap (λ (c : Choice). handed_back c a b) is, (chosen Second is).0, (chosen Second is).1)
 
-  pub neither-chosen : choice s a b ≡ Neither → (handedBack (choice s a b) a b ≡ []) × (Passes s a → ⊥) × (Passes s b → ⊥)
-  neither-chosen is = (ap (λ (c : Choice). handedBack c a b) is, (chosen Neither is).0, (chosen Neither is).1)
+  pub neither-chosen : choice s a b ≡ Neither → (handed_back (choice s a b) a b ≡ []) × (Passes s a → ⊥) × (Passes s b → ⊥)
+  neither-chosen is = (ap (λ (c : Choice). handed_back c a b) is, (chosen Neither is).0, (chosen Neither is).1)

@@ -3,19 +3,19 @@ use Rattle.std.specs.Prelude.{◌≡◌, List, ℕ, ◌+◌, ◌≤◌, ◌<◌,
 use Rattle.meaning.specs.declared.Booked.{Booked}
 use Rattle.meaning.specs.Words.{Bytes}
 use Rattle.meaning.specs.Plan.{front}
-use Rattle.meaning.specs.Book.{bookMade, listAt, behindList, entry_at}
+use Rattle.meaning.specs.Book.{book_made, list_at, behind_list, entry_at}
 
 -- it answers this and leaves the buffer so
 abbrev pub MakesBook : (s plan buffer : Bytes) → Booked → Bytes → Type 0
 MakesBook s plan buffer r left =
-    ((bookMade s plan (length buffer)).answer ≡ r) × (front buffer (bookMade s plan (length buffer)).written ≡ left)
+    ((book_made s plan (length buffer)).answer ≡ r) × (front buffer (book_made s plan (length buffer)).written ≡ left)
 
 -- the two lists that probe k + 2 reads in a book
 abbrev pub sendings : (book : Bytes) → (k : ℕ) → List ℕ
-sendings book k = listAt book (entry_at book k)
+sendings book k = list_at book (entry_at book k)
 
 abbrev pub receivings : (book : Bytes) → (k : ℕ) → List ℕ
-receivings book k = listAt book (behindList book (entry_at book k))
+receivings book k = list_at book (behind_list book (entry_at book k))
 
 -- each number is below the next, and the first is at least 1
 abbrev pub Rising : List ℕ → Type 0

@@ -6,11 +6,11 @@ use Prim.Native.Nat.{ℕ, suc, ◌+◌, ◌≤◌}
 use native.Mathlib.Omega.{arith}
 use Rattle.meaning.specs.Words.{Bytes}
 use Rattle.meaning.specs.Lister.{text, decimal}
-use Rattle.digits.specs.Digits.{numberSaid}
+use Rattle.digits.specs.Digits.{number_said}
 use Rattle.graph.specs.declared.Line.TheVariants.{Problem, Edge}
 use Rattle.graph.specs.Part.{newline, space, marks, part}
-use Rattle.graph.specs.Lines.{same, is_number, number_at, isProblem, isEdge, line_of}
-use Rattle.graph.specs.Drawing.{problemLine, edgeLine}
+use Rattle.graph.specs.Lines.{same, is_number, number_at, is_problem, is_edge, line_of}
+use Rattle.graph.specs.Drawing.{problem_line, edge_line}
 use Rattle.graph.proofs.Cut.{part-whole}
 use Rattle.readback.proofs.Appended.{marks-append, part-goes-on, part-behind}
 use Rattle.readback.proofs.SaysItself.{is-number, said-is, no-mark}
@@ -20,11 +20,11 @@ unfoldable pub two : (a b : ℕ) → Bytes
 two a b = decimal 5 a ++ (space ∷ decimal 5 b)
 
 -- an `e` line and a `p` line without their ends
-abbrev pub edgeWords : (a b : ℕ) → Bytes
-edgeWords a b = 101 ∷ space ∷ two a b
+abbrev pub edge_words : (a b : ℕ) → Bytes
+edge_words a b = 101 ∷ space ∷ two a b
 
-abbrev pub problemWords : (n m : ℕ) → Bytes
-problemWords n m = 112 ∷ space ∷ 101 ∷ 100 ∷ 103 ∷ 101 ∷ space ∷ two n m
+abbrev pub problem_words : (n m : ℕ) → Bytes
+problem_words n m = 112 ∷ space ∷ 101 ∷ 100 ∷ 103 ∷ 101 ∷ space ∷ two n m
 
 module _ (a b : ℕ) where
   no-space : (n : ℕ) → marks space (decimal 5 n) ≡ 0
@@ -66,21 +66,21 @@ module _ (a b : ℕ) where
   unfolding two marks
   no-newline = marks-append newline (decimal 5 a) (space ∷ decimal 5 b) ∙ ap₂ ◌+◌ (no-mark newline 5 a (omega arith)) (no-mark newline 5 b (omega arith))
 
-  pub edge-one-line : marks newline (edgeWords a b) ≡ 0
+  pub edge-one-line : marks newline (edge_words a b) ≡ 0
   unfolding marks
   edge-one-line = no-newline
 
-  pub problem-one-line : marks newline (problemWords a b) ≡ 0
+  pub problem-one-line : marks newline (problem_words a b) ≡ 0
   unfolding marks
   problem-one-line = no-newline
 
   -- the lines with their ends
-  pub edge-line : edgeLine a b ≡ edgeWords a b ++ (newline ∷ [])
-  unfolding edgeLine text two
+  pub edge-line : edge_line a b ≡ edge_words a b ++ (newline ∷ [])
+  unfolding edge_line text two
   edge-line = refl
 
-  pub problem-line : problemLine a b ≡ problemWords a b ++ (newline ∷ [])
-  unfolding problemLine text two
+  pub problem-line : problem_line a b ≡ problem_words a b ++ (newline ∷ [])
+  unfolding problem_line text two
   problem-line = refl
 
   module _ (h : a ≤ 65535) (l : b ≤ 65535) where
@@ -90,30 +90,30 @@ module _ (a b : ℕ) where
     second-number : is_number (part space 1 (two a b)) ≡ true
     second-number = ap is_number two-second ∙ is-number b (omega (arith, l))
 
-    edge-words : isEdge (edgeWords a b) ≡ true
-    unfolding isEdge marks part same text
+    edge-words : is_edge (edge_words a b) ≡ true
+    unfolding is_edge marks part same text
     edge-words = simp (two-marks, first-number, second-number)
 
-    edge-no-problem : isProblem (edgeWords a b) ≡ false
-    unfolding isProblem marks
+    edge-no-problem : is_problem (edge_words a b) ≡ false
+    unfolding is_problem marks
     edge-no-problem = simp two-marks
 
-    problem-words : isProblem (problemWords a b) ≡ true
-    unfolding isProblem marks part same text
+    problem-words : is_problem (problem_words a b) ≡ true
+    unfolding is_problem marks part same text
     problem-words = simp (two-marks, first-number, second-number)
 
-    edge-numbers : Edge (number_at (edgeWords a b) 1) (number_at (edgeWords a b) 2) ≡ Edge a b
+    edge-numbers : Edge (number_at (edge_words a b) 1) (number_at (edge_words a b) 2) ≡ Edge a b
     unfolding part
-    edge-numbers = ap₂ Edge (ap numberSaid two-first ∙ said-is a h) (ap numberSaid two-second ∙ said-is b l)
+    edge-numbers = ap₂ Edge (ap number_said two-first ∙ said-is a h) (ap number_said two-second ∙ said-is b l)
 
-    problem-numbers : Problem (number_at (problemWords a b) 2) (number_at (problemWords a b) 3) ≡ Problem a b
+    problem-numbers : Problem (number_at (problem_words a b) 2) (number_at (problem_words a b) 3) ≡ Problem a b
     unfolding part
-    problem-numbers = ap₂ Problem (ap numberSaid two-first ∙ said-is a h) (ap numberSaid two-second ∙ said-is b l)
+    problem-numbers = ap₂ Problem (ap number_said two-first ∙ said-is a h) (ap number_said two-second ∙ said-is b l)
 
-    pub edge-read : line_of (edgeWords a b) ≡ Edge a b
+    pub edge-read : line_of (edge_words a b) ≡ Edge a b
     unfolding line_of
     edge-read = simp (edge-no-problem, edge-words) edge-numbers
 
-    pub problem-read : line_of (problemWords a b) ≡ Problem a b
+    pub problem-read : line_of (problem_words a b) ≡ Problem a b
     unfolding line_of
     problem-read = simp problem-words problem-numbers

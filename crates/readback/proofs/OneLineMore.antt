@@ -2,11 +2,11 @@
 use mathlib.Core.Path.{◌≡◌, refl, sym, ap, ap₂, ◌∙◌}
 use mathlib.Core.List.{[], ◌∷◌, ◌++◌, append-nil}
 use Prim.Native.Nat.{ℕ, suc, ◌+◌, ◌<◌}
-use Rattle.meaning.specs.Words.{Bytes, forEach}
-use Rattle.laws.proofs.Turns.{forEach-one, forEach-same}
+use Rattle.meaning.specs.Words.{Bytes, for_each}
+use Rattle.laws.proofs.Turns.{for_each-one, for_each-same}
 use Rattle.graph.specs.Part.{newline, marks, part}
-use Rattle.graph.specs.Table.{noEdges}
-use Rattle.graph.specs.Reading.{SoFar, unread, lineRead, lines_read}
+use Rattle.graph.specs.Table.{no_edges}
+use Rattle.graph.specs.Reading.{SoFar, unread, line_read, lines_read}
 use Rattle.graph.proofs.Cut.{part-whole}
 use Rattle.readback.proofs.Appended.{marks-append, part_stays, part-goes-on, part-behind}
 
@@ -15,8 +15,8 @@ pub record Read (text : Bytes) (now : SoFar) : Type 0 where
   pub whole : part newline (marks newline text) text ≡ []
   pub lines : lines_read text ≡ now
 
-pub read_none : Read [] (record { state = unread; table = noEdges })
-unfolding marks part lines_read forEach
+pub read_none : Read [] (record { state = unread; table = no_edges })
+unfolding marks part lines_read for_each
 read_none = record { whole = refl; lines = refl }
 
 module _ (text line : Bytes) (now : SoFar) (read : Read text now) (one : marks newline line ≡ 0) where
@@ -60,10 +60,10 @@ module _ (text line : Bytes) (now : SoFar) (read : Read text now) (one : marks n
   all = text ++ ended
 
   step : Bytes → ℕ → SoFar → SoFar
-  step t k so = lineRead so (part newline k t)
+  step t k so = line_read so (part newline k t)
 
   start : SoFar
-  start = record { state = unread; table = noEdges }
+  start = record { state = unread; table = no_edges }
 
   all-marks : marks newline all ≡ marks newline text + 1
   unfolding all
@@ -73,30 +73,30 @@ module _ (text line : Bytes) (now : SoFar) (read : Read text now) (one : marks n
   unfolding all
   new_line = part-goes-on newline text ended ∙ ap₂ ◌++◌ read.whole ended-first
 
-  by-steps : (t : Bytes) → lines_read t ≡ forEach (marks newline t) (step t) start
+  by-steps : (t : Bytes) → lines_read t ≡ for_each (marks newline t) (step t) start
   unfolding lines_read step start
   by-steps t = refl
 
-  old-lines : forEach (marks newline text) (step all) start ≡ forEach (marks newline text) (step text) start
+  old-lines : for_each (marks newline text) (step all) start ≡ for_each (marks newline text) (step text) start
   unfolding step all
   old-lines =
-      forEach-same (marks newline text) (step all) (step text) start
-      (λ k h so. ap (lineRead so) (part_stays newline k text ended h))
+      for_each-same (marks newline text) (step all) (step text) start
+      (λ k h so. ap (line_read so) (part_stays newline k text ended h))
 
-  one-step : (so : SoFar) → step all (marks newline text) so ≡ lineRead so line
+  one-step : (so : SoFar) → step all (marks newline text) so ≡ line_read so line
   unfolding step
-  one-step so = ap (lineRead so) new_line
+  one-step so = ap (line_read so) new_line
 
   -- one line more
-  pub read-line : Read (text ++ (line ++ (newline ∷ []))) (lineRead now line)
+  pub read-line : Read (text ++ (line ++ (newline ∷ []))) (line_read now line)
   unfolding all ended
   read-line =
       record {
         whole = ap (λ (k : ℕ). part newline k all) all-marks ∙ part-behind newline 0 text ended ∙ ended-rest;
         lines =
             by-steps all
-            ∙ ap (λ (k : ℕ). forEach k (step all) start) all-marks
-            ∙ forEach-one (marks newline text) (step all) start
-            ∙ one-step (forEach (marks newline text) (step all) start)
-            ∙ ap (λ (so : SoFar). lineRead so line) (old-lines ∙ sym (by-steps text) ∙ read.lines);
+            ∙ ap (λ (k : ℕ). for_each k (step all) start) all-marks
+            ∙ for_each-one (marks newline text) (step all) start
+            ∙ one-step (for_each (marks newline text) (step all) start)
+            ∙ ap (λ (so : SoFar). line_read so line) (old-lines ∙ sym (by-steps text) ∙ read.lines);
       }

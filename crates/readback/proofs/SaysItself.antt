@@ -11,31 +11,31 @@ use lib.ListN.{length, get_or, length-append, get_or-append}
 use Rattle.meaning.specs.Words.{Bytes}
 use Rattle.meaning.specs.Lister.{decimal}
 use Rattle.lines.proofs.Decimal.{decimal-none, decimal-last, opened}
-use Rattle.digits.specs.Digits.{isDigit, othersStand, digitsSay, numberSaid}
+use Rattle.digits.specs.Digits.{is_digit, others_stand, digits_say, number_said}
 use Rattle.graph.specs.Part.{marks}
 use Rattle.graph.specs.Lines.{is_number}
 
 -- digits behind digits
-others-append : (xs ys : Bytes) → othersStand (xs ++ ys) ≡ othersStand xs || othersStand ys
-unfolding othersStand
+others-append : (xs ys : Bytes) → others_stand (xs ++ ys) ≡ others_stand xs || others_stand ys
+unfolding others_stand
 others-append [] ys = refl
-others-append (x ∷ xs) ys = go (isDigit x) (others-append xs ys)
+others-append (x ∷ xs) ys = go (is_digit x) (others-append xs ys)
   where
-    go : (b : Bool) → othersStand (xs ++ ys) ≡ othersStand xs || othersStand ys → (not b || othersStand (xs ++ ys)) ≡ ((not b || othersStand xs) || othersStand ys)
+    go : (b : Bool) → others_stand (xs ++ ys) ≡ others_stand xs || others_stand ys → (not b || others_stand (xs ++ ys)) ≡ ((not b || others_stand xs) || others_stand ys)
     go true e = e
     go false e = refl
 
-say-append : (before : ℕ) (xs ys : Bytes) → digitsSay before (xs ++ ys) ≡ digitsSay (digitsSay before xs) ys
-unfolding digitsSay
+say-append : (before : ℕ) (xs ys : Bytes) → digits_say before (xs ++ ys) ≡ digits_say (digits_say before xs) ys
+unfolding digits_say
 say-append before [] ys = refl
 say-append before (x ∷ xs) ys = say-append (10 * before + (x - 48)) xs ys
 
-one-digit : (d : ℕ) → d < 10 → othersStand ((48 + d) ∷ []) ≡ false
-unfolding othersStand
+one-digit : (d : ℕ) → d < 10 → others_stand ((48 + d) ∷ []) ≡ false
+unfolding others_stand
 one-digit d h = simp (le-leb 48 (48 + d) (omega arith), le-leb (48 + d) 57 (omega (arith, h)))
 
-one-says : (before d : ℕ) → digitsSay before ((48 + d) ∷ []) ≡ 10 * before + d
-unfolding digitsSay
+one-says : (before d : ℕ) → digits_say before ((48 + d) ∷ []) ≡ 10 * before + d
+unfolding digits_say
 one-says before d = omega arith
 
 -- so many numbers have at most k digits
@@ -55,38 +55,38 @@ tens-more : (k : ℕ) → tens (suc k) ≡ 10 * tens k
 unfolding tens
 tens-more k = refl
 
-nothing-others : othersStand [] ≡ false
-unfolding othersStand
+nothing-others : others_stand [] ≡ false
+unfolding others_stand
 nothing-others = refl
 
-nothing-says : (b : ℕ) → digitsSay b [] ≡ b
-unfolding digitsSay
+nothing-says : (b : ℕ) → digits_say b [] ≡ b
+unfolding digits_say
 nothing-says b = refl
 
-pub all_digits : (k n : ℕ) → othersStand (decimal k n) ≡ false
-all_digits zero n = ap othersStand (decimal-none 0 n refl) ∙ nothing-others
+pub all_digits : (k n : ℕ) → others_stand (decimal k n) ≡ false
+all_digits zero n = ap others_stand (decimal-none 0 n refl) ∙ nothing-others
 all_digits (suc k) n = go (dec_lt n 10) (all_digits k (n / 10))
   where
-    go : Dec (n < 10) → othersStand (decimal k (n / 10)) ≡ false → othersStand (decimal (suc k) n) ≡ false
-    go (yes h) ih = ap othersStand (decimal-last (suc k) n (λ e. omega (arith, e)) h) ∙ one-digit n h
+    go : Dec (n < 10) → others_stand (decimal k (n / 10)) ≡ false → others_stand (decimal (suc k) n) ≡ false
+    go (yes h) ih = ap others_stand (decimal-last (suc k) n (λ e. omega (arith, e)) h) ∙ one-digit n h
     go (no h) ih =
-        ap othersStand (opened k n (omega (arith, h)))
+        ap others_stand (opened k n (omega (arith, h)))
         ∙ others-append (decimal k (n / 10)) ((48 + n % 10) ∷ [])
         ∙ ap₂ ◌||◌ ih (one-digit (n % 10) (omega arith))
 
-pub says-itself : (k n : ℕ) → n < tens k → digitsSay 0 (decimal k n) ≡ n
-says-itself zero n h = ap (digitsSay 0) (decimal-none 0 n refl) ∙ nothing-says 0 ∙ none
+pub says-itself : (k n : ℕ) → n < tens k → digits_say 0 (decimal k n) ≡ n
+says-itself zero n h = ap (digits_say 0) (decimal-none 0 n refl) ∙ nothing-says 0 ∙ none
   where
     none : 0 ≡ n
     none = omega (arith, h, tens-none)
 says-itself (suc k) n h = go (dec_lt n 10) (says-itself k (n / 10))
   where
-    go : Dec (n < 10) → (n / 10 < tens k → digitsSay 0 (decimal k (n / 10)) ≡ n / 10) → digitsSay 0 (decimal (suc k) n) ≡ n
-    go (yes l) ih = ap (digitsSay 0) (decimal-last (suc k) n (λ e. omega (arith, e)) l) ∙ one-says 0 n ∙ omega arith
+    go : Dec (n < 10) → (n / 10 < tens k → digits_say 0 (decimal k (n / 10)) ≡ n / 10) → digits_say 0 (decimal (suc k) n) ≡ n
+    go (yes l) ih = ap (digits_say 0) (decimal-last (suc k) n (λ e. omega (arith, e)) l) ∙ one-says 0 n ∙ omega arith
     go (no l) ih =
-        ap (digitsSay 0) (opened k n (omega (arith, l)))
+        ap (digits_say 0) (opened k n (omega (arith, l)))
         ∙ say-append 0 (decimal k (n / 10)) ((48 + n % 10) ∷ [])
-        ∙ one-says (digitsSay 0 (decimal k (n / 10))) (n % 10)
+        ∙ one-says (digits_say 0 (decimal k (n / 10))) (n % 10)
         ∙ ap (λ (b : ℕ). 10 * b + n % 10) (ih (omega (arith, h, tens-more k)))
         ∙ omega arith
 
@@ -112,10 +112,10 @@ unfolding decimal
 zero-said = refl
 
 zero_is : is_number (48 ∷ []) ≡ true
-unfolding is_number othersStand
+unfolding is_number others_stand
 zero_is = refl
 
-number_by : (word : Bytes) → othersStand word ≡ false → 0 < length word → eqb (get_or word 0 0) 48 ≡ false → is_number word ≡ true
+number_by : (word : Bytes) → others_stand word ≡ false → 0 < length word → eqb (get_or word 0 0) 48 ≡ false → is_number word ≡ true
 unfolding is_number
 number_by word others long lead = simp (ne_eqb (length word) 0 (λ e. omega (arith, e, long)), others, lead) (either (eqb (length word) 1))
   where
@@ -134,21 +134,21 @@ is-number n h = go (dec_lt 0 n)
         ap (λ (k : ℕ). is_number (decimal 5 k)) none ∙ ap is_number zero-said ∙ zero_is
 
 -- and says itself
-pub said-is : (n : ℕ) → n ≤ 65535 → numberSaid (decimal 5 n) ≡ n
-unfolding numberSaid
+pub said-is : (n : ℕ) → n ≤ 65535 → number_said (decimal 5 n) ≡ n
+unfolding number_said
 said-is n h = ap (λ (k : ℕ). min k 65535) (says-itself 5 n (omega (arith, h, tens-five))) ∙ omega (arith, h)
 
 -- no mark below the digits stands among them
-no-marks : (m : ℕ) (ds : Bytes) → m < 48 → othersStand ds ≡ false → marks m ds ≡ 0
-unfolding marks othersStand
+no-marks : (m : ℕ) (ds : Bytes) → m < 48 → others_stand ds ≡ false → marks m ds ≡ 0
+unfolding marks others_stand
 no-marks m [] h e = refl
 no-marks m (d ∷ ds) h e = go (leb 48 d) refl e (no-marks m ds h)
   where
-    go : (b : Bool) → leb 48 d ≡ b → (not (b && leb d 57) || othersStand ds) ≡ false → (othersStand ds ≡ false → marks m ds ≡ 0)
+    go : (b : Bool) → leb 48 d ≡ b → (not (b && leb d 57) || others_stand ds) ≡ false → (others_stand ds ≡ false → marks m ds ≡ 0)
         → cond (eqb d m) (suc (marks m ds)) (marks m ds) ≡ 0
     go true l e ih = rw (ne_eqb d m (λ s. omega (arith, s, h, leb-true 48 d l))) (ih (rest (leb d 57) e))
       where
-        rest : (b : Bool) → (not b || othersStand ds) ≡ false → othersStand ds ≡ false
+        rest : (b : Bool) → (not b || others_stand ds) ≡ false → others_stand ds ≡ false
         rest true e = e
         rest false e = absurd (true≢false e)
     go false l e ih = absurd (true≢false e)

@@ -1,15 +1,15 @@
 // A plan is read slot by slot, and each slot's number is put into the lists of who sends and of who hears in it.
 ghost use Rattle.std.specs.Prelude.{◌≡◌, ◌+◌, ◌≤◌, length};
-ghost use Rattle.meaning.specs.Plan.{sendersAt, slotsFrom};
-ghost use Rattle.slot.specs.Place.{slotAt};
-ghost use Rattle.reader.specs.Noted.{twoSet, noted, notedSender, notedSlot, notedSlots};
+ghost use Rattle.meaning.specs.Plan.{senders_at, slots_from};
+ghost use Rattle.slot.specs.Place.{slot_at};
+ghost use Rattle.reader.specs.Noted.{two_set, noted, noted_sender, noted_slot, noted_slots};
 
 use meaning::Slot;
 
 // Puts a number at a place, two bytes, high first.
 fn put_two(place: usize, number: u16, book: &mut [u8])
     requires { place + 2 ≤ length book.old }
-    ensures { book.new ≡ twoSet place number book.old }
+    ensures { book.new ≡ two_set place number book.old }
 {
     book[place] = (number / 256) as u8;
     book[place + 1] = (number % 256) as u8;
@@ -40,7 +40,7 @@ fn note(place: usize, slot: Slot, book: &mut [u8])
 
 // A slot more in a sender's own list, and in that of what its parent hears; a sender that is no node has neither.
 fn note_sender(places: &[usize; 130], slot: Slot, sender: u8, book: &mut [u8])
-    ensures { book.new ≡ notedSender places.now slot.0 sender book.old }
+    ensures { book.new ≡ noted_sender places.now slot.0 sender book.old }
 {
     if 65 <= sender {
         return;
@@ -52,7 +52,7 @@ fn note_sender(places: &[usize; 130], slot: Slot, sender: u8, book: &mut [u8])
 
 // The same for each sender of a slot.
 fn note_slot(places: &[usize; 130], slot: Slot, senders: &[u8], book: &mut [u8])
-    ensures { book.new ≡ notedSlot places.now slot.0 senders.now book.old }
+    ensures { book.new ≡ noted_slot places.now slot.0 senders.now book.old }
 {
     let number = slot.0;
     let mut i = 0;
@@ -78,14 +78,14 @@ fn open<'a>(plan: &'a [u8]) -> Reader<'a>
 
 // The senders of the slot that a reader is at.
 fn senders<'a>(r: Reader<'a>) -> &'a [u8]
-    ensures { result.now ≡ sendersAt r.entry.plan.now r.entry.at }
+    ensures { result.now ≡ senders_at r.entry.plan.now r.entry.at }
 {
     slot::senders_at(r.plan, r.at)
 }
 
 // The reader behind that slot.
 fn behind<'a>(r: Reader<'a>) -> Reader<'a>
-    ensures { (result.plan ≡ r.entry.plan) × (result.at ≡ (slotAt r.entry.plan.now r.entry.at).next) }
+    ensures { (result.plan ≡ r.entry.plan) × (result.at ≡ (slot_at r.entry.plan.now r.entry.at).next) }
 {
     let here = slot::slot_at(r.plan, r.at);
     Reader {
@@ -96,7 +96,7 @@ fn behind<'a>(r: Reader<'a>) -> Reader<'a>
 
 // Puts the number of each of a plan's slots, counted from 1, into the lists of who sends and of who hears in it.
 pub fn note_slots(plan: &[u8], many: u16, places: &[usize; 130], book: &mut [u8])
-    ensures { book.new ≡ notedSlots places.now 1 (slotsFrom plan.now 2 many) book.old }
+    ensures { book.new ≡ noted_slots places.now 1 (slots_from plan.now 2 many) book.old }
 {
     let mut r = open(plan);
     let mut k: u16 = 0;

@@ -7,7 +7,7 @@ use lib.ListN.{get_or-eq_default}
 use Rattle.meaning.specs.declared.Mode.{Mode}
 use Rattle.meaning.specs.declared.Mode.TheVariants.{Merged}
 use Rattle.lines.specs.Line.{fitting, Put}
-use Rattle.sayings.specs.Saying.{unknown, sayings, saying, sayingIn}
+use Rattle.sayings.specs.Saying.{unknown, sayings, saying, saying_in}
 
 -- the same bytes by another name
 put_same : {l after bytes words : List ℕ} {at end : ℕ} → bytes ≡ words → Put l at (fitting l at bytes) after end → Put l at (fitting l at words) after end
@@ -24,9 +24,9 @@ unfolding sayings saying
 put-unknown h words = put_same (words ∙ sym (get_or-eq_default sayings unknown h))
 
 -- the words of a number in a mode, and that those of merged readings but for two numbers are those of packets
-pub put-words-in : {l after bytes : List ℕ} {at end number k : ℕ} {mode this : Mode} → mode ≡ this → number ≡ k → bytes ≡ sayingIn this k
-    → Put l at (fitting l at bytes) after end → Put l at (fitting l at (sayingIn mode number)) after end
+pub put-words-in : {l after bytes : List ℕ} {at end number k : ℕ} {mode this : Mode} → mode ≡ this → number ≡ k → bytes ≡ saying_in this k
+    → Put l at (fitting l at bytes) after end → Put l at (fitting l at (saying_in mode number)) after end
 put-words-in m e words = put_same (cc)
 
-pub said-of-packets : (number : ℕ) → (number ≡ 14 → ⊥) → (number ≡ 17 → ⊥) → saying number ≡ sayingIn Merged number
+pub said-of-packets : (number : ℕ) → (number ≡ 14 → ⊥) → (number ≡ 17 → ⊥) → saying number ≡ saying_in Merged number
 said-of-packets number ready all = rw (ne_eqb number 14 ready, ne_eqb number 17 all)

@@ -11,7 +11,7 @@ use lib.Seq.{get_or-take, get_or-drop}
 use Rattle.meaning.specs.declared.Mode.{Mode}
 use Rattle.meaning.specs.declared.Mode.TheVariants.{Packets, Merged}
 use Rattle.meaning.specs.Lister.{text}
-use Rattle.sayings.specs.Saying.{unknown, sayings, saying, sayingIn}
+use Rattle.sayings.specs.Saying.{unknown, sayings, saying, saying_in}
 
 -- the longest of some words
 longest : List (List ℕ) → ℕ
@@ -25,7 +25,7 @@ at_most k words w (first ∷ more) h zero = let most : max (length first) (longe
 at_most k words w (first ∷ more) h (suc n) = let most : max (length first) (longest more) ≤ k = h in at_most k words w more (omega (arith, most)) n
 
 -- and those of merged readings' own are short
-in-any-mode : (k : ℕ) → 21 ≤ k → (mode : Mode) (number : ℕ) → length (saying number) ≤ k → length (sayingIn mode number) ≤ k
+in-any-mode : (k : ℕ) → 21 ≤ k → (mode : Mode) (number : ℕ) → length (saying number) ≤ k → length (saying_in mode number) ≤ k
 unfolding text
 in-any-mode k h Packets number most = most
 in-any-mode k h Merged number most = go (eqb number 14) (eqb number 17)
@@ -35,13 +35,13 @@ in-any-mode k h Merged number most = go (eqb number 14) (eqb number 17)
     go false true = h
     go false false = most
 
-pub saying-long : (mode : Mode) (number : ℕ) → length (sayingIn mode number) ≤ 80
+pub saying-long : (mode : Mode) (number : ℕ) → length (saying_in mode number) ≤ 80
 unfolding longest text unknown sayings saying
 saying-long mode number =
     in-any-mode 80 (leb-true 21 80 refl) mode number (at_most 80 unknown (leb-true (length unknown) 80 refl) sayings (leb-true (longest sayings) 80 refl) number)
 
 -- what 12 to 15 say is short, so that senders can stand before it
-pub saying-short : (mode : Mode) (number : ℕ) → 11 < number → number < 16 → length (sayingIn mode number) ≤ 43
+pub saying-short : (mode : Mode) (number : ℕ) → 11 < number → number < 16 → length (saying_in mode number) ≤ 43
 unfolding longest text unknown sayings saying
 saying-short mode number low high =
     let k = number - 12 in

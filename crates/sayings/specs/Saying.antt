@@ -42,6 +42,6 @@ unfoldable pub saying : (number : ℕ) → Bytes
 saying number = get_or sayings number unknown
 
 -- docs/NUMBERS.md, of merged readings: 14 and 17 have words of their own, every other number says what it says of packets
-abbrev pub sayingIn : Mode → (number : ℕ) → Bytes
-sayingIn Packets number = saying number
-sayingIn Merged number = cond (eqb number 14) (text " is not ready") (cond (eqb number 17) (text "some probe never sent") (saying number))
+abbrev pub saying_in : Mode → (number : ℕ) → Bytes
+saying_in Packets number = saying number
+saying_in Merged number = cond (eqb number 14) (text " is not ready") (cond (eqb number 17) (text "some probe never sent") (saying number))

@@ -1,7 +1,7 @@
 // The words of the numbers: `put_saying` and `put_saying_in` decide every byte of them, at a place of a lent buffer.
 ghost use Rattle.std.specs.Prelude.{◌<◌};
 ghost use Rattle.lines.specs.Line.{fitting, Put};
-ghost use Rattle.sayings.specs.Saying.{saying, sayingIn};
+ghost use Rattle.sayings.specs.Saying.{saying, saying_in};
 
 use meaning::Mode;
 
@@ -131,7 +131,7 @@ pub fn put_saying(number: u8, out: &mut [u8], at: usize) -> usize
 
 // The same in a mode: of merged readings 14 and 17 have words of their own.
 pub fn put_saying_in(mode: Mode, number: u8, out: &mut [u8], at: usize) -> usize
-    ensures { Put out.old at (fitting out.old at (sayingIn mode number)) out.new result }
+    ensures { Put out.old at (fitting out.old at (saying_in mode number)) out.new result }
 {
     match mode {
         Mode::Packets => put_saying(number, out, at),

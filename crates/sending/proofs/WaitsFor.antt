@@ -9,7 +9,7 @@ use lib.Dec.{eqb}
 use lib.ListN.{get_or, set}
 use Rattle.meaning.specs.Words.{tab, places}
 use Rattle.meaning.specs.Rounds.{holds, waits}
-use Rattle.laws.proofs.Turns.{some_one, getD-tab, tab-same, set-tab}
+use Rattle.laws.proofs.Turns.{some_one, get_or-tab, tab-same, set-tab}
 
 or-false : (b : Bool) → (b || false) ≡ b
 or-false true = refl
@@ -31,7 +31,7 @@ module _ (parent : ℕ → ℕ) (held : List ℕ) (k : ℕ) where
       ∙ set-tab places (waits k parent held) (waits (k + 1) parent held) up _ false node
       (next-waits up
       ∙ ap (λ (b : Bool). waits k parent held up || (b && holds held (k + 2))) (eq-eqb (parent (k + 2)) up (sym its))
-      ∙ ap (λ (b : Bool). b || holds held (k + 2)) (sym (getD-tab places (waits k parent held) up false node)))
+      ∙ ap (λ (b : Bool). b || holds held (k + 2)) (sym (get_or-tab places (waits k parent held) up false node)))
       (λ j other. other-waits j (λ e. other (sym e ∙ sym its)))
 
   pub nobody-waits : (flags : List Bool) → flags ≡ tab places (waits k parent held) → places ≤ parent (k + 2) → flags ≡ tab places (waits (k + 1) parent held)

@@ -1,10 +1,10 @@
 // What may be sent and where it goes, of packets and of merged readings: what is held at first, who is ready, and what a slot that is sent does to what is held.
 ghost use Rattle.std.specs.Prelude.{◌≡◌, cond};
-ghost use Rattle.meaning.specs.Words.{byNode, tab, places};
-ghost use Rattle.meaning.specs.Rounds.{oneEach, ready, goesIn, waits};
-ghost use Rattle.laws.specs.Few.{atMost63};
-ghost use Rattle.slot.specs.Move.{movedWithin};
-ghost use Rattle.sending.specs.First.{firstHeld};
+ghost use Rattle.meaning.specs.Words.{by_node, tab, places};
+ghost use Rattle.meaning.specs.Rounds.{one_each, ready, goes_in, waits};
+ghost use Rattle.laws.specs.Few.{at_most63};
+ghost use Rattle.slot.specs.Move.{moved_within};
+ghost use Rattle.sending.specs.First.{first_held};
 
 use meaning::Mode;
 
@@ -16,7 +16,7 @@ fn one_if(is: bool) -> u16
 
 // One reading of each probe, by node.
 fn readings(p: u8) -> [u16; 65]
-    ensures { result ≡ tab places (oneEach (atMost63 p)) }
+    ensures { result ≡ tab places (one_each (at_most63 p)) }
 {
     let last = laws::at_most_63(p) as usize + 1;
     let mut held = [0u16; 65];
@@ -30,7 +30,7 @@ fn readings(p: u8) -> [u16; 65]
 
 // What is held before the first slot, by node: the packets, or one reading of each probe, whatever its packets are.
 pub fn first_held(mode: Mode, p: u8, packets: [u8; 65]) -> [u16; 65]
-    ensures { result ≡ firstHeld mode (atMost63 p) packets }
+    ensures { result ≡ first_held mode (at_most63 p) packets }
 {
     match mode {
         Mode::Packets => slot::wide(packets),
@@ -40,7 +40,7 @@ pub fn first_held(mode: Mode, p: u8, packets: [u8; 65]) -> [u16; 65]
 
 // Who waits for a child that has not sent yet, by node.
 fn waiting(p: u8, parents: &[u8; 65], held: &[u16; 65]) -> [bool; 65]
-    ensures { result ≡ tab places (waits (atMost63 p) (byNode parents.now) held.now) }
+    ensures { result ≡ tab places (waits (at_most63 p) (by_node parents.now) held.now) }
 {
     let probes = laws::at_most_63(p);
     let mut flags = [false; 65];
@@ -59,7 +59,7 @@ fn waiting(p: u8, parents: &[u8; 65], held: &[u16; 65]) -> [bool; 65]
 
 // Who is ready, by node, as 1: has not sent yet, and all its children have.
 pub fn ready(p: u8, parents: &[u8; 65], held: &[u16; 65]) -> [u16; 65]
-    ensures { result ≡ ready (atMost63 p) (byNode parents.now) held.now }
+    ensures { result ≡ ready (at_most63 p) (by_node parents.now) held.now }
 {
     let waits = waiting(p, parents, held);
     let mut may = [0u16; 65];
@@ -73,7 +73,7 @@ pub fn ready(p: u8, parents: &[u8; 65], held: &[u16; 65]) -> [u16; 65]
 
 // What a slot that is sent does to what is held: each packet goes to the sender's parent, each reading counts as brought in.
 pub fn send(mode: Mode, parents: &[u8; 65], slot: &[u8], held: &mut [u16; 65])
-    ensures { held.new ≡ movedWithin (goesIn mode (byNode parents.now)) slot.now held.old }
+    ensures { held.new ≡ moved_within (goes_in mode (by_node parents.now)) slot.now held.old }
 {
     match mode {
         Mode::Packets => slot::move_packets(parents, slot, held),

@@ -10,141 +10,141 @@ use borrow.Author.Tests.{eq-eqb, ne_eqb, ltb-false}
 use lib.ListN.{get_or, replicate}
 use Rattle.meaning.specs.declared.Outcome.{Outcome}
 use Rattle.meaning.specs.Words.{tab, places}
-use Rattle.meaning.specs.Yard.{levelBy, hopsOf}
-use Rattle.meaning.specs.Sheet.{probeCount, probeRecords, pairCount, pairRecords, parent_of, packetsOf, levelOf, hops}
+use Rattle.meaning.specs.Yard.{level_by, hops_of}
+use Rattle.meaning.specs.Sheet.{probe_count, probe_records, pair_count, pair_records, parent_of, packets_of, level_of, hops}
 use Rattle.meaning.specs.Colour.{levels}
-use Rattle.meaning.specs.Answer.{isAccepted, ◌then◌, inOrder, probeTest, walkTest, pairTest, countsTest, sheetTest}
-use Rattle.laws.proofs.Turns.{sum_same, getD-tab, getD-places}
+use Rattle.meaning.specs.Answer.{is_accepted, ◌then◌, in_order, probe_test, walk_test, pair_test, counts_test, sheet_test}
+use Rattle.laws.proofs.Turns.{sum_same, get_or-tab, get_or-places}
 use Rattle.laws.proofs.Walk.{probe-past}
 use Rattle.laws.proofs.Accepted.{then-stays, then-goes, then-accepted, given-accepted, parent-outside}
 use Rattle.laws.proofs.Grounds as Grounds
 use Rattle.sheet.specs.declared.Walks.{Walks}
-use Rattle.sheet.specs.Tree.{recordByte, walksOf, refusedTree, tree_of}
+use Rattle.sheet.specs.Tree.{record_byte, walks_of, refused_tree, tree_of}
 
 module _ (s : List ℕ) where
-  abbrev pub probesAnswer : Outcome
-  probesAnswer = inOrder (probeCount s) (probeTest (probeRecords s) (probeCount s))
+  abbrev pub probes_answer : Outcome
+  probes_answer = in_order (probe_count s) (probe_test (probe_records s) (probe_count s))
 
-  abbrev pub walksAnswer : Outcome
-  walksAnswer = inOrder (probeCount s) (walkTest (parent_of s) (probeCount s))
+  abbrev pub walks_answer : Outcome
+  walks_answer = in_order (probe_count s) (walk_test (parent_of s) (probe_count s))
 
-  abbrev pub pairsAnswer : Outcome
-  pairsAnswer = inOrder (pairCount s) (pairTest (pairRecords s) (probeCount s))
+  abbrev pub pairs_answer : Outcome
+  pairs_answer = in_order (pair_count s) (pair_test (pair_records s) (probe_count s))
 
-  stages : (countsTest s then (probesAnswer then (walksAnswer then pairsAnswer))) ≡ sheetTest s
-  unfolding sheetTest
+  stages : (counts_test s then (probes_answer then (walks_answer then pairs_answer))) ≡ sheet_test s
+  unfolding sheet_test
   stages = refl
 
-number-given : (o e : Outcome) → o ≡ e → (o.number ≡ 0 → ⊥) → isAccepted e ≡ false
-number-given o e is some = ap (λ (x : Outcome). isAccepted x) (sym is) ∙ ne_eqb o.number 0 some
+number-given : (o e : Outcome) → o ≡ e → (o.number ≡ 0 → ⊥) → is_accepted e ≡ false
+number-given o e is some = ap (λ (x : Outcome). is_accepted x) (sym is) ∙ ne_eqb o.number 0 some
 
-pub no_number : (o e : Outcome) → o ≡ e → o.number ≡ 0 → isAccepted e ≡ true
-no_number o e is none = ap (λ (x : Outcome). isAccepted x) (sym is) ∙ eq-eqb o.number 0 none
+pub no_number : (o e : Outcome) → o ≡ e → o.number ≡ 0 → is_accepted e ≡ true
+no_number o e is none = ap (λ (x : Outcome). is_accepted x) (sym is) ∙ eq-eqb o.number 0 none
 
-parents-meant : (s : List ℕ) → recordByte (probeRecords s) (probeCount s) 0 ≡ parent_of s
-unfolding recordByte parent_of
+parents-meant : (s : List ℕ) → record_byte (probe_records s) (probe_count s) 0 ≡ parent_of s
+unfolding record_byte parent_of
 parents-meant s = fun_ext (λ v. simp add-zero)
 
-packets-meant : (s : List ℕ) → recordByte (probeRecords s) (probeCount s) 1 ≡ packetsOf s
-unfolding recordByte packetsOf
+packets-meant : (s : List ℕ) → record_byte (probe_records s) (probe_count s) 1 ≡ packets_of s
+unfolding record_byte packets_of
 packets-meant s = refl
 
 -- the tables by node are those of the meaning
-module _ (s records : List ℕ) (p : ℕ) (pIs : p ≡ probeCount s) (recordsIs : records ≡ probeRecords s) where
-  pub probes-read : inOrder p (probeTest records p) ≡ probesAnswer s
-  probes-read = ap₂ (λ (n : ℕ) (l : List ℕ). inOrder n (probeTest l n)) pIs recordsIs
+module _ (s records : List ℕ) (p : ℕ) (p_is : p ≡ probe_count s) (records_is : records ≡ probe_records s) where
+  pub probes-read : in_order p (probe_test records p) ≡ probes_answer s
+  probes-read = ap₂ (λ (n : ℕ) (l : List ℕ). in_order n (probe_test l n)) p_is records_is
 
-  table-read : (side : ℕ) → tab places (recordByte records p side) ≡ tab places (recordByte (probeRecords s) (probeCount s) side)
-  table-read side = ap₂ (λ (n : ℕ) (l : List ℕ). tab places (recordByte l n side)) pIs recordsIs
+  table-read : (side : ℕ) → tab places (record_byte records p side) ≡ tab places (record_byte (probe_records s) (probe_count s) side)
+  table-read side = ap₂ (λ (n : ℕ) (l : List ℕ). tab places (record_byte l n side)) p_is records_is
 
-  pub parents-read : tab places (recordByte records p 0) ≡ tab places (parent_of s)
+  pub parents-read : tab places (record_byte records p 0) ≡ tab places (parent_of s)
   parents-read = table-read 0 ∙ ap (λ (f : ℕ → ℕ). tab places f) (parents-meant s)
 
-  pub packets-read : tab places (recordByte records p 1) ≡ tab places (packetsOf s)
+  pub packets-read : tab places (record_byte records p 1) ≡ tab places (packets_of s)
   packets-read = table-read 1 ∙ ap (λ (f : ℕ → ℕ). tab places f) (packets-meant s)
 
-pub pairs-read : (s records : List ℕ) (p q : ℕ) → p ≡ probeCount s → q ≡ pairCount s → records ≡ pairRecords s
-    → inOrder q (pairTest records p) ≡ pairsAnswer s
-pairs-read s records p q pIs qIs recordsIs =
-    ap₂ (λ (n : ℕ) (l : List ℕ). inOrder n (pairTest l p)) qIs recordsIs
-    ∙ ap (λ (n : ℕ). inOrder (pairCount s) (pairTest (pairRecords s) n)) pIs
+pub pairs-read : (s records : List ℕ) (p q : ℕ) → p ≡ probe_count s → q ≡ pair_count s → records ≡ pair_records s
+    → in_order q (pair_test records p) ≡ pairs_answer s
+pairs-read s records p q p_is q_is records_is =
+    ap₂ (λ (n : ℕ) (l : List ℕ). in_order n (pair_test l p)) q_is records_is
+    ∙ ap (λ (n : ℕ). in_order (pair_count s) (pair_test (pair_records s) n)) p_is
 
 module _ (s : List ℕ) where
   -- a number is given: there is no tree
-  refused : (o : Outcome) → (o.number ≡ 0 → ⊥) → o ≡ sheetTest s → refusedTree o ≡ tree_of s
+  refused : (o : Outcome) → (o.number ≡ 0 → ⊥) → o ≡ sheet_test s → refused_tree o ≡ tree_of s
   unfolding tree_of
   refused o some is = simp (number-given o _ is some, is)
 
   -- the counts decide
-  pub counts-decide : (o : Outcome) → o ≡ countsTest s → (o.number ≡ 0 → ⊥) → refusedTree o ≡ tree_of s
+  pub counts-decide : (o : Outcome) → o ≡ counts_test s → (o.number ≡ 0 → ⊥) → refused_tree o ≡ tree_of s
   counts-decide o is some = refused o some (is ∙ sym (then-stays _ _ (number-given o _ is some)) ∙ stages s)
 
-  module _ (counts : isAccepted (countsTest s) ≡ true) where
-    pub few-probes : probeCount s ≤ 63
-    unfolding countsTest
-    few-probes = ltb-false 63 (probeCount s) (given-accepted 2 0 _ refl (then-accepted _ _ (then-accepted _ _ counts).1).0)
+  module _ (counts : is_accepted (counts_test s) ≡ true) where
+    pub few-probes : probe_count s ≤ 63
+    unfolding counts_test
+    few-probes = ltb-false 63 (probe_count s) (given-accepted 2 0 _ refl (then-accepted _ _ (then-accepted _ _ counts).1).0)
 
     -- the probes decide
-    pub probes-decide : (o : Outcome) → o ≡ probesAnswer s → (o.number ≡ 0 → ⊥) → refusedTree o ≡ tree_of s
+    pub probes-decide : (o : Outcome) → o ≡ probes_answer s → (o.number ≡ 0 → ⊥) → refused_tree o ≡ tree_of s
     probes-decide o is some =
         refused o some (is ∙ sym (then-stays _ _ (number-given o _ is some)) ∙ sym (then-goes _ _ counts) ∙ stages s)
 
     -- the parents by node, read at any number
     parent-read : (v : ℕ) → get_or (tab places (parent_of s)) v 0 ≡ parent_of s v
-    parent-read = getD-places (parent_of s) 0 (λ v past. parent-outside s v (probe-past (probeCount s) v (omega (arith, few-probes))))
+    parent-read = get_or-places (parent_of s) 0 (λ v past. parent-outside s v (probe-past (probe_count s) v (omega (arith, few-probes))))
 
     -- the walks of what was read are the sheet's
-    module _ (p : ℕ) (parents : List ℕ) (walks : Walks) (pIs : p ≡ probeCount s) (parentsIs : parents ≡ tab places (parent_of s))
-        (is : walks ≡ walksOf (λ v. get_or parents v 0) p) where
-      walks-are : walks ≡ walksOf (parent_of s) (probeCount s)
+    module _ (p : ℕ) (parents : List ℕ) (walks : Walks) (p_is : p ≡ probe_count s) (parents_is : parents ≡ tab places (parent_of s))
+        (is : walks ≡ walks_of (λ v. get_or parents v 0) p) where
+      walks-are : walks ≡ walks_of (parent_of s) (probe_count s)
       walks-are =
           is
-          ∙ ap₂ (λ (n : ℕ) (parent : ℕ → ℕ). walksOf parent n) pIs
-          (fun_ext (λ v. ap (λ (l : List ℕ). get_or l v 0) parentsIs ∙ parent-read v))
+          ∙ ap₂ (λ (n : ℕ) (parent : ℕ → ℕ). walks_of parent n) p_is
+          (fun_ext (λ v. ap (λ (l : List ℕ). get_or l v 0) parents_is ∙ parent-read v))
 
-      pub walks-read : walks.outcome ≡ walksAnswer s
-      unfolding walksOf
+      pub walks-read : walks.outcome ≡ walks_answer s
+      unfolding walks_of
       walks-read = ap (λ (w : Walks). w.outcome) walks-are
 
-      pub levels-read : isAccepted (walksAnswer s) ≡ true → walks.levels ≡ levels s
-      unfolding walksOf levels levelOf
+      pub levels-read : is_accepted (walks_answer s) ≡ true → walks.levels ≡ levels s
+      unfolding walks_of levels level_of
       levels-read all =
           ap (λ (w : Walks). w.levels) walks-are
-          ∙ ap (λ (b : Bool). cond b (tab places (levelBy (probeCount s) (parent_of s))) (replicate places 0)) all
+          ∙ ap (λ (b : Bool). cond b (tab places (level_by (probe_count s) (parent_of s))) (replicate places 0)) all
 
-    module _ (probes : isAccepted (probesAnswer s) ≡ true) where
-      behind-probes : (walksAnswer s then pairsAnswer s) ≡ sheetTest s
+    module _ (probes : is_accepted (probes_answer s) ≡ true) where
+      behind-probes : (walks_answer s then pairs_answer s) ≡ sheet_test s
       behind-probes = sym (then-goes _ _ probes) ∙ sym (then-goes _ _ counts) ∙ stages s
 
       -- the walks decide
-      pub walks-decide : (o : Outcome) → o ≡ walksAnswer s → (o.number ≡ 0 → ⊥) → refusedTree o ≡ tree_of s
+      pub walks-decide : (o : Outcome) → o ≡ walks_answer s → (o.number ≡ 0 → ⊥) → refused_tree o ≡ tree_of s
       walks-decide o is some = refused o some (is ∙ sym (then-stays _ _ (number-given o _ is some)) ∙ behind-probes)
 
-      module _ (walks : isAccepted (walksAnswer s) ≡ true) (o : Outcome) (is : o ≡ pairsAnswer s) where
-        whole : o ≡ sheetTest s
+      module _ (walks : is_accepted (walks_answer s) ≡ true) (o : Outcome) (is : o ≡ pairs_answer s) where
+        whole : o ≡ sheet_test s
         whole = is ∙ sym (then-goes _ _ walks) ∙ behind-probes
 
         -- the pairs decide
-        pub pairs_decide : (o.number ≡ 0 → ⊥) → refusedTree o ≡ tree_of s
+        pub pairs_decide : (o.number ≡ 0 → ⊥) → refused_tree o ≡ tree_of s
         pairs_decide some = refused o some whole
 
         -- no number is given
         module _ (none : o.number ≡ 0) where
-          accepted : isAccepted (sheetTest s) ≡ true
+          accepted : is_accepted (sheet_test s) ≡ true
           accepted = no_number o _ whole none
 
-          hops-read : hopsOf (probeCount s) (λ v. get_or (tab places (packetsOf s)) v 0) (λ v. get_or (levels s) v 0) ≡ hops s
+          hops-read : hops_of (probe_count s) (λ v. get_or (tab places (packets_of s)) v 0) (λ v. get_or (levels s) v 0) ≡ hops s
           unfolding hops levels
           hops-read =
-              sum_same (probeCount s) (λ k. get_or (tab places (packetsOf s)) (k + 2) 0 * get_or (tab places (levelOf s)) (k + 2) 0)
-              (λ k. packetsOf s (k + 2) * levelOf s (k + 2))
+              sum_same (probe_count s) (λ k. get_or (tab places (packets_of s)) (k + 2) 0 * get_or (tab places (level_of s)) (k + 2) 0)
+              (λ k. packets_of s (k + 2) * level_of s (k + 2))
               (λ k h.
-              ap₂ ◌*◌ (Grounds.packets-read s accepted (k + 2)) (getD-tab places (levelOf s) (k + 2) 0 (omega (arith, few-probes))))
+              ap₂ ◌*◌ (Grounds.packets-read s accepted (k + 2)) (get_or-tab places (level_of s) (k + 2) 0 (omega (arith, few-probes))))
 
-          pub tree-read : (p : ℕ) (parents packets its-levels : List ℕ) (its-hops : ℕ) → p ≡ probeCount s → parents ≡ tab places (parent_of s)
-              → packets ≡ tab places (packetsOf s) → its-levels ≡ levels s
-              → its-hops ≡ hopsOf p (λ v. get_or packets v 0) (λ v. get_or its-levels v 0)
+          pub tree-read : (p : ℕ) (parents packets its-levels : List ℕ) (its-hops : ℕ) → p ≡ probe_count s → parents ≡ tab places (parent_of s)
+              → packets ≡ tab places (packets_of s) → its-levels ≡ levels s
+              → its-hops ≡ hops_of p (λ v. get_or packets v 0) (λ v. get_or its-levels v 0)
               → record { outcome = o; probes = p; parents = parents; packets = packets; levels = its-levels; hops = its-hops } ≡ tree_of s
           unfolding tree_of
-          tree-read p parents packets its-levels its-hops pIs parentsIs packetsIs levelsIs hopsIs =
-              simp (accepted, hopsIs, whole, pIs, parentsIs, packetsIs, levelsIs, hops-read)
+          tree-read p parents packets its-levels its-hops p_is parents_is packets_is levels_is hops_is =
+              simp (accepted, hops_is, whole, p_is, parents_is, packets_is, levels_is, hops-read)

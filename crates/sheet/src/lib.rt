@@ -1,10 +1,10 @@
 // Reads a yard sheet once: its first refusal, or the tree that it describes; and the conflict table of the sheet.
 ghost use Rattle.std.specs.Prelude.{◌≡◌, ◌<◌, ◌≤◌, ◌||◌, ◌&&◌, eqb, ltb, leb, drop};
-ghost use Rattle.meaning.specs.Words.{tab, places, byNode};
-ghost use Rattle.meaning.specs.Sheet.{probeRecords, pairCountAt, pairCount, pairRecords, interfere};
+ghost use Rattle.meaning.specs.Words.{tab, places, by_node};
+ghost use Rattle.meaning.specs.Sheet.{probe_records, pair_count_at, pair_count, pair_records, interfere};
 ghost use Rattle.meaning.specs.Conflict.{conflict, table_of};
-ghost use Rattle.meaning.specs.Answer.{inOrder, probeTest, pairTest, countsTest};
-ghost use Rattle.sheet.specs.Tree.{ofTheSheet, recordByte, strayed, walksOf, refusedTree, tree_of};
+ghost use Rattle.meaning.specs.Answer.{in_order, probe_test, pair_test, counts_test};
+ghost use Rattle.sheet.specs.Tree.{of_the_sheet, record_byte, strayed, walks_of, refused_tree, tree_of};
 
 use meaning::{Node, Outcome, Probe, Walk};
 
@@ -36,14 +36,14 @@ fn rest(s: &[u8], at: usize) -> &[u8]
 
 // Where the two bytes q stand.
 fn pair_count_at(sheet: &[u8]) -> usize
-    ensures { result ≡ pairCountAt sheet.now }
+    ensures { result ≡ pair_count_at sheet.now }
 {
     2 * (laws::number_at(sheet, 0) as usize) + 1
 }
 
 // q, the number of interfering pairs.
 fn pair_count(sheet: &[u8]) -> u16
-    ensures { result ≡ pairCount sheet.now }
+    ensures { result ≡ pair_count sheet.now }
 {
     let at = pair_count_at(sheet);
     256 * (laws::number_at(sheet, at) as u16) + laws::number_at(sheet, at + 1) as u16
@@ -51,14 +51,14 @@ fn pair_count(sheet: &[u8]) -> u16
 
 // The probes' records: the rest of the sheet behind p.
 fn probe_records(sheet: &[u8]) -> &[u8]
-    ensures { result.now ≡ probeRecords sheet.now }
+    ensures { result.now ≡ probe_records sheet.now }
 {
     rest(sheet, 1)
 }
 
 // The pairs' records: the rest of the sheet behind q.
 fn pair_records(sheet: &[u8]) -> &[u8]
-    ensures { result.now ≡ pairRecords sheet.now }
+    ensures { result.now ≡ pair_records sheet.now }
 {
     let at = pair_count_at(sheet);
     rest(sheet, at + 2)
@@ -66,7 +66,7 @@ fn pair_records(sheet: &[u8]) -> &[u8]
 
 // The number that the sheet's tests before its records give; its place is 0.
 fn counts_number(sheet: &[u8]) -> u8
-    ensures { ofTheSheet result ≡ countsTest sheet.now }
+    ensures { of_the_sheet result ≡ counts_test sheet.now }
 {
     let length = sheet.len();
     if length == 0 {
@@ -96,7 +96,7 @@ fn counts_number(sheet: &[u8]) -> u8
 
 // The sheet's tests before its records.
 fn counts_test(sheet: &[u8]) -> Outcome
-    ensures { result ≡ countsTest sheet.now }
+    ensures { result ≡ counts_test sheet.now }
 {
     Outcome {
         number: counts_number(sheet),
@@ -120,7 +120,7 @@ fn packets_wrong(packets: u8) -> bool
 
 // 4 and 5 of probe k + 2.
 fn probe_test(records: &[u8], p: u8, k: u8) -> Outcome
-    ensures { result ≡ probeTest records.now p k }
+    ensures { result ≡ probe_test records.now p k }
 {
     let probe = k as u16 + 2;
     let at = 2 * (k as usize);
@@ -141,7 +141,7 @@ fn probe_test(records: &[u8], p: u8, k: u8) -> Outcome
 
 // The probes' tests in rising number, up to the first that gives a number.
 fn probes_test(records: &[u8], p: u8) -> Outcome
-    ensures { result ≡ inOrder p (probeTest records.now p) }
+    ensures { result ≡ in_order p (probe_test records.now p) }
 {
     let mut found = meaning::ACCEPTED;
     let mut k: u8 = 0;
@@ -158,7 +158,7 @@ fn probes_test(records: &[u8], p: u8) -> Outcome
 // One byte of the record of node v; 0 where v is no probe.
 fn record_byte(records: &[u8], p: u8, side: usize, v: usize) -> u8
     requires { (side < 2) × (v < 65) }
-    ensures { result ≡ recordByte records.now p side v }
+    ensures { result ≡ record_byte records.now p side v }
 {
     let n = p as usize + 1;
     if v < 2 {
@@ -173,7 +173,7 @@ fn record_byte(records: &[u8], p: u8, side: usize, v: usize) -> u8
 // One byte of each record, by node.
 fn by_node(records: &[u8], p: u8, side: usize) -> [u8; 65]
     requires { side < 2 }
-    ensures { result ≡ tab places (recordByte records.now p side) }
+    ensures { result ≡ tab places (record_byte records.now p side) }
 {
     let mut table = [0u8; 65];
     let mut v = 0;
@@ -186,14 +186,14 @@ fn by_node(records: &[u8], p: u8, side: usize) -> [u8; 65]
 
 // Each probe's parent, by node.
 fn parents(records: &[u8], p: u8) -> [u8; 65]
-    ensures { result ≡ tab places (recordByte records.now p 0) }
+    ensures { result ≡ tab places (record_byte records.now p 0) }
 {
     by_node(records, p, 0)
 }
 
 // Each probe's packets, by node.
 fn packets(records: &[u8], p: u8) -> [u8; 65]
-    ensures { result ≡ tab places (recordByte records.now p 1) }
+    ensures { result ≡ tab places (record_byte records.now p 1) }
 {
     by_node(records, p, 1)
 }
@@ -214,7 +214,7 @@ fn strayed(probe: Probe) -> Walks
 // The probes' walks in rising number, up to the first that never arrives: 6, or the level of each.
 fn walks_test(parents: &[u8; 65], p: u8) -> Walks
     requires { p ≤ 63 }
-    ensures { result ≡ walksOf (byNode parents.now) p }
+    ensures { result ≡ walks_of (by_node parents.now) p }
 {
     let mut levels = [0u8; 65];
     let mut k: u8 = 0;
@@ -253,7 +253,7 @@ fn rises(a: u16, b: u16, c: u16, d: u16) -> bool
 // 7 and 8 of pair k + 1.
 fn pair_test(records: &[u8], p: u8, k: u16) -> Outcome
     requires { k < 65535 }
-    ensures { result ≡ pairTest records.now p k }
+    ensures { result ≡ pair_test records.now p k }
 {
     let at = 2 * (k as usize);
     let a = laws::number_at(records, at) as u16;
@@ -284,7 +284,7 @@ fn pair_test(records: &[u8], p: u8, k: u16) -> Outcome
 
 // The pairs' tests in order, up to the first that gives a number.
 fn pairs_test(records: &[u8], p: u8, q: u16) -> Outcome
-    ensures { result ≡ inOrder q (pairTest records.now p) }
+    ensures { result ≡ in_order q (pair_test records.now p) }
 {
     let mut found = meaning::ACCEPTED;
     let mut k: u16 = 0;
@@ -300,7 +300,7 @@ fn pairs_test(records: &[u8], p: u8, q: u16) -> Outcome
 
 // What a refused sheet is read as.
 fn refused(outcome: Outcome) -> Tree
-    ensures { result ≡ refusedTree outcome }
+    ensures { result ≡ refused_tree outcome }
 {
     Tree {
         outcome,
@@ -351,7 +351,7 @@ pub fn read(sheet: &[u8]) -> Tree
 
 // The conflict table of a sheet, by its tree; its pairs are handed on as they stand.
 pub fn conflicts(sheet: &[u8], p: u8, parents: [u8; 65]) -> [[bool; 65]; 65]
-    ensures { result ≡ table_of (conflict p (byNode parents) (interfere (pairRecords sheet.now) (pairCount sheet.now))) }
+    ensures { result ≡ table_of (conflict p (by_node parents) (interfere (pair_records sheet.now) (pair_count sheet.now))) }
 {
     conflict::table(p, parents, pair_records(sheet), pair_count(sheet))
 }

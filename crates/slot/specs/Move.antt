@@ -4,14 +4,14 @@ use Rattle.meaning.specs.Words.{Node, places}
 use Rattle.meaning.specs.Rounds.{holds, hop}
 
 -- the sender and its parent are nodes, the sender holds a packet, and the parent can hold one more
-abbrev pub mayHop : (parent : Node → Node) → (v : Node) → (held : List ℕ) → Bool
-mayHop parent v held = ltb v places && ltb (parent v) places && holds held v && ltb (get_or held (parent v) 0) 65535
+abbrev pub may_hop : (parent : Node → Node) → (v : Node) → (held : List ℕ) → Bool
+may_hop parent v held = ltb v places && ltb (parent v) places && holds held v && ltb (get_or held (parent v) 0) 65535
 
 -- "The two plans": a sender's packet moves to its parent, where it may
-unfoldable pub hopWithin : (parent : Node → Node) → (v : Node) → (held : List ℕ) → List ℕ
-hopWithin parent v held = cond (mayHop parent v held) (hop parent v held) held
+unfoldable pub hop_within : (parent : Node → Node) → (v : Node) → (held : List ℕ) → List ℕ
+hop_within parent v held = cond (may_hop parent v held) (hop parent v held) held
 
 -- "The two plans": sender by sender
-unfoldable pub movedWithin : (parent : Node → Node) → (slot : List Node) → (held : List ℕ) → List ℕ
-movedWithin parent [] held = held
-movedWithin parent (v ∷ slot) held = movedWithin parent slot (hopWithin parent v held)
+unfoldable pub moved_within : (parent : Node → Node) → (slot : List Node) → (held : List ℕ) → List ℕ
+moved_within parent [] held = held
+moved_within parent (v ∷ slot) held = moved_within parent slot (hop_within parent v held)

@@ -6,7 +6,7 @@ use Rattle.slot.specs.declared.SlotAt.{SlotAt}
 
 -- "The plan in bytes": where the senders of the slot at a place begin, how many they are, and where the next slot begins; a place past the
 -- end counts as the end
-unfoldable pub slotAt : (plan : Bytes) → (at : ℕ) → SlotAt
-slotAt plan at =
+unfoldable pub slot_at : (plan : Bytes) → (at : ℕ) → SlotAt
+slot_at plan at =
     let from = min at (length plan) in
     record { first = from + 1; many = get_or plan from 0; next = next_at plan from }

@@ -1,16 +1,16 @@
 // What is done with a slot: where it stands in a plan, its test, moving its packets, and whether any packet is outside the gateway.
 ghost use Rattle.std.specs.Prelude.{◌≡◌, ◌+◌, ◌-◌, ◌≤◌, ◌<◌, length, get_or};
-ghost use Rattle.meaning.specs.Words.{byNode, least};
-ghost use Rattle.meaning.specs.Yard.{isProbe};
-ghost use Rattle.meaning.specs.Sheet.{twoAt};
-ghost use Rattle.meaning.specs.Plan.{sendersAt};
+ghost use Rattle.meaning.specs.Words.{by_node, least};
+ghost use Rattle.meaning.specs.Yard.{is_probe};
+ghost use Rattle.meaning.specs.Sheet.{two_at};
+ghost use Rattle.meaning.specs.Plan.{senders_at};
 ghost use Rattle.meaning.specs.Conflict.{entry};
 ghost use Rattle.meaning.specs.Rounds.{outside};
-ghost use Rattle.meaning.specs.Judge.{noProbe, notRising, noPacket, slotTested};
-ghost use Rattle.laws.specs.Few.{atMost63};
-ghost use Rattle.slot.specs.Place.{slotAt};
-ghost use Rattle.slot.specs.SlotSenders.{Nodes, firstTwo, blaming, loneTested};
-ghost use Rattle.slot.specs.Move.{hopWithin, movedWithin};
+ghost use Rattle.meaning.specs.Judge.{no_probe, not_rising, no_packet, slot_tested};
+ghost use Rattle.laws.specs.Few.{at_most63};
+ghost use Rattle.slot.specs.Place.{slot_at};
+ghost use Rattle.slot.specs.SlotSenders.{Nodes, first_two, blaming, lone_tested};
+ghost use Rattle.slot.specs.Move.{hop_within, moved_within};
 
 use meaning::{Names, Outcome, Probe, Slot, Tested};
 
@@ -24,7 +24,7 @@ pub struct SlotAt {
 
 // The slot at a place of a plan; a place past the end counts as the end.
 pub fn slot_at(plan: &[u8], at: usize) -> SlotAt
-    ensures { result ≡ slotAt plan.now at }
+    ensures { result ≡ slot_at plan.now at }
 {
     let end = plan.len();
     if end <= at {
@@ -44,7 +44,7 @@ pub fn slot_at(plan: &[u8], at: usize) -> SlotAt
 
 // The senders of the slot at a place of a plan: those that stand there where the plan cuts it short, none past its end.
 pub fn senders_at(plan: &[u8], at: usize) -> &[u8]
-    ensures { result.now ≡ sendersAt plan.now at }
+    ensures { result.now ≡ senders_at plan.now at }
 {
     let end = plan.len();
     if end <= at {
@@ -60,7 +60,7 @@ pub fn senders_at(plan: &[u8], at: usize) -> &[u8]
 
 // How many slots a plan says it has.
 pub fn slot_count(plan: &[u8]) -> u16
-    ensures answer { result ≡ twoAt plan.now 0 }
+    ensures answer { result ≡ two_at plan.now 0 }
     ensures bytes { (get_or plan.now 0 0 < 256) × (get_or plan.now 1 0 < 256) }
 {
     256 * (laws::number_at(plan, 0) as u16) + laws::number_at(plan, 1) as u16
@@ -69,14 +69,14 @@ pub fn slot_count(plan: &[u8]) -> u16
 // Whether a sender is one of the probes 2 to p + 1, by one comparison: 254 for less 2, which wraps a byte below 2 above any p.
 fn is_probe(p: u8, sender: u8) -> bool
     requires { p ≤ 63 }
-    ensures { result ≡ isProbe p sender }
+    ensures { result ≡ is_probe p sender }
 {
     (sender as u16 + 254) % 256 < p as u16
 }
 
 // 12: the place of the first sender that is no probe, or their number where none is.
 fn no_probe(p: u8, slot: &[u8]) -> usize
-    ensures { result ≡ least (length slot.now) (noProbe (atMost63 p) slot.now) }
+    ensures { result ≡ least (length slot.now) (no_probe (at_most63 p) slot.now) }
 {
     let probes = laws::at_most_63(p);
     let mut i = 0;
@@ -91,7 +91,7 @@ fn no_probe(p: u8, slot: &[u8]) -> usize
 
 // 13: the place of the first sender that is not above the one before, or what is behind the last.
 fn not_rising(slot: &[u8]) -> usize
-    ensures { result ≡ least (length slot.now - 1) (notRising slot.now) + 1 }
+    ensures { result ≡ least (length slot.now - 1) (not_rising slot.now) + 1 }
 {
     let mut i = 0;
     while i + 1 < slot.len() {
@@ -106,7 +106,7 @@ fn not_rising(slot: &[u8]) -> usize
 // 14: the place of the first sender that holds no packet, or their number where each does.
 fn no_packet(held: &[u16; 65], slot: &[u8]) -> usize
     requires { Nodes slot.now }
-    ensures { result ≡ least (length slot.now) (noPacket held.now slot.now) }
+    ensures { result ≡ least (length slot.now) (no_packet held.now slot.now) }
 {
     let mut i = 0;
     while i < slot.len() {
@@ -129,7 +129,7 @@ struct Two {
 // 15: the first two senders that conflict; it stops there.
 fn two_conflict(table: &[[bool; 65]; 65], slot: &[u8]) -> Two
     requires { Nodes slot.now }
-    ensures { result ≡ firstTwo (entry table.now) slot.now }
+    ensures { result ≡ first_two (entry table.now) slot.now }
 {
     let mut first = slot.len();
     let mut second = slot.len();
@@ -164,7 +164,7 @@ fn blamed(number: u8, slot: Slot, first: u8, second: u8) -> Tested
 
 // 12 and 14 of a slot with one sender, the usual slot of a crowded yard: 13 and 15 want two.
 fn lone_tested(p: u8, held: &[u16; 65], number: Slot, sender: u8) -> Tested
-    ensures { result ≡ loneTested (atMost63 p) held.now number.0 sender }
+    ensures { result ≡ lone_tested (at_most63 p) held.now number.0 sender }
 {
     if !is_probe(laws::at_most_63(p), sender) {
         return blamed(12, number, sender, 0);
@@ -184,7 +184,7 @@ pub fn slot_tested(
     number: Slot,
     slot: &[u8],
 ) -> Tested
-    ensures { result ≡ slotTested (atMost63 p) (entry table.now) held.now number.0 slot.now }
+    ensures { result ≡ slot_tested (at_most63 p) (entry table.now) held.now number.0 slot.now }
 {
     let many = slot.len();
     if many == 1 {
@@ -213,7 +213,7 @@ pub fn slot_tested(
 
 // Moves one packet of a sender to its parent; where one of them has no place, the sender no packet or the parent no room, nothing moves.
 fn hop(parents: &[u8; 65], sender: Probe, held: &mut [u16; 65])
-    ensures { held.new ≡ hopWithin (byNode parents.now) sender.0 held.old }
+    ensures { held.new ≡ hop_within (by_node parents.now) sender.0 held.old }
 {
     let from = sender.0 as usize;
     if 65 <= from {
@@ -236,7 +236,7 @@ fn hop(parents: &[u8; 65], sender: Probe, held: &mut [u16; 65])
 
 // Moves a packet of each sender, in turn; a lone one needs no loop.
 pub fn move_packets(parents: &[u8; 65], slot: &[u8], held: &mut [u16; 65])
-    ensures { held.new ≡ movedWithin (byNode parents.now) slot.now held.old }
+    ensures { held.new ≡ moved_within (by_node parents.now) slot.now held.old }
 {
     if slot.len() == 1 {
         hop(parents, Probe(slot[0]), held);
@@ -251,7 +251,7 @@ pub fn move_packets(parents: &[u8; 65], slot: &[u8], held: &mut [u16; 65])
 
 // Whether any packet is outside the gateway.
 pub fn any_outside(p: u8, held: &[u16; 65]) -> bool
-    ensures { result ≡ outside (atMost63 p) held.now }
+    ensures { result ≡ outside (at_most63 p) held.now }
 {
     let probes = laws::at_most_63(p);
     let mut k: u8 = 0;

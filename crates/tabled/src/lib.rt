@@ -1,17 +1,17 @@
 // A graph's table as a person reads it: every byte of it, in a lent buffer.
 ghost use Rattle.std.specs.Prelude.{◌≡◌, cond, [], ◌≤◌, length, take};
 ghost use Rattle.meaning.specs.Lister.{said};
-ghost use Rattle.lines.specs.Line.{lineLength, lineIn};
+ghost use Rattle.lines.specs.Line.{line_length, line_in};
 ghost use Rattle.lines.specs.Fits.{Fits};
 ghost use Rattle.graph.specs.Drawing.{texts};
-ghost use Rattle.tabled.specs.Tabled.{headLine, degreeIn, joinedText, vertexLine, vertexText, shownTable};
+ghost use Rattle.tabled.specs.Tabled.{head_line, degree_in, joined_text, vertex_line, vertex_text, shown_table};
 
 // Room for any table: 64 lines of at most 400 bytes.
 pub const ANY_TABLE: usize = 25600;
 
 // Puts the line of the whole graph at a place; says where it ends.
 fn put_head(vertices: u8, edges: u16, out: &mut [u8], at: usize) -> usize
-    ensures { Fits out.old at (headLine vertices edges) out.new result }
+    ensures { Fits out.old at (head_line vertices edges) out.new result }
 {
     let a = lines::put_counted(b"vertices ", vertices as u16, out, at);
     let b = lines::put_counted(b" edges ", edges, out, a);
@@ -20,7 +20,7 @@ fn put_head(vertices: u8, edges: u16, out: &mut [u8], at: usize) -> usize
 
 // How many vertices a vertex is joined to.
 fn degree(row: &[bool; 65]) -> u16
-    ensures { result ≡ degreeIn row.now }
+    ensures { result ≡ degree_in row.now }
 {
     let mut n: u16 = 0;
     let mut k = 0;
@@ -45,7 +45,7 @@ fn put_joined(is: bool, u: u16, out: &mut [u8], at: usize) -> usize
 
 // Puts the vertices that a vertex is joined to; says where they end.
 fn put_all_joined(row: &[bool; 65], out: &mut [u8], at: usize) -> usize
-    ensures { Fits out.old at (texts 63 (joinedText row.now)) out.new result }
+    ensures { Fits out.old at (texts 63 (joined_text row.now)) out.new result }
 {
     let mut end = at;
     let mut k: u16 = 0;
@@ -58,7 +58,7 @@ fn put_all_joined(row: &[bool; 65], out: &mut [u8], at: usize) -> usize
 
 // Puts the line of a vertex at a place; says where it ends.
 fn put_vertex(v: u8, row: &[bool; 65], out: &mut [u8], at: usize) -> usize
-    ensures { Fits out.old at (vertexLine v row.now) out.new result }
+    ensures { Fits out.old at (vertex_line v row.now) out.new result }
 {
     let a = lines::put_counted(b"", v as u16, out, at);
     let b = lines::put_counted(b" degree ", degree(row), out, a);
@@ -69,7 +69,7 @@ fn put_vertex(v: u8, row: &[bool; 65], out: &mut [u8], at: usize) -> usize
 
 // The same, or nothing where there is no such vertex.
 fn put_shown(is: bool, v: u8, row: &[bool; 65], out: &mut [u8], at: usize) -> usize
-    ensures { Fits out.old at (cond is (vertexLine v row.now) []) out.new result }
+    ensures { Fits out.old at (cond is (vertex_line v row.now) []) out.new result }
 {
     if !is {
         return at;
@@ -79,7 +79,7 @@ fn put_shown(is: bool, v: u8, row: &[bool; 65], out: &mut [u8], at: usize) -> us
 
 // Puts a line for each vertex, which has the row of the node behind it; says where they end.
 fn put_all_shown(vertices: u8, table: &[[bool; 65]; 65], out: &mut [u8], at: usize) -> usize
-    ensures { Fits out.old at (texts 63 (vertexText vertices table.now)) out.new result }
+    ensures { Fits out.old at (texts 63 (vertex_text vertices table.now)) out.new result }
 {
     let mut end = at;
     let mut k: u8 = 0;
@@ -92,7 +92,7 @@ fn put_all_shown(vertices: u8, table: &[[bool; 65]; 65], out: &mut [u8], at: usi
 
 // Puts the line of the graph and those of its vertices at a place; says where they end.
 fn put_table(vertices: u8, table: &[[bool; 65]; 65], out: &mut [u8], at: usize) -> usize
-    ensures { Fits out.old at (shownTable vertices table.now) out.new result }
+    ensures { Fits out.old at (shown_table vertices table.now) out.new result }
 {
     let next = put_head(vertices, graph::edges(table), out, at);
     put_all_shown(vertices, table, out, next)
@@ -101,8 +101,8 @@ fn put_table(vertices: u8, table: &[[bool; 65]; 65], out: &mut [u8], at: usize) 
 // The table of a graph, at the start of a lent buffer; says how many bytes it has, 0 and nothing written where they do not fit.
 pub fn table_text(vertices: u8, table: &[[bool; 65]; 65], out: &mut [u8]) -> usize
     ensures part { (result ≤ length out.new) × (result ≡ length (take result out.new)) }
-    ensures answer { result ≡ lineLength out.old (shownTable vertices table.now) }
-    ensures buffer { out.new ≡ lineIn out.old (shownTable vertices table.now) }
+    ensures answer { result ≡ line_length out.old (shown_table vertices table.now) }
+    ensures buffer { out.new ≡ line_in out.old (shown_table vertices table.now) }
 {
     let mut text = [0u8; ANY_TABLE];
     let n = put_table(vertices, table, &mut text, 0);

@@ -9,12 +9,12 @@ use lib.ListN.{length, get_or}
 use Rattle.meaning.specs.declared.Mode.TheVariants.{Packets}
 use Rattle.meaning.specs.declared.Planned.{Planned}
 use Rattle.meaning.specs.declared.Told.{Told}
-use Rattle.meaning.specs.Yard.{slowestOf, leastSlotsOf}
-use Rattle.meaning.specs.Sheet.{leastSlots}
-use Rattle.meaning.specs.Plan.{anyPlan}
-use Rattle.meaning.specs.Rounds.{byProbe}
-use Rattle.meaning.specs.Answer.{isAccepted, sheetTest, planMade}
-use Rattle.meaning.specs.Telephone.{at_most, timesAny, asked}
+use Rattle.meaning.specs.Yard.{slowest_of, least_slots_of}
+use Rattle.meaning.specs.Sheet.{least_slots}
+use Rattle.meaning.specs.Plan.{any_plan}
+use Rattle.meaning.specs.Rounds.{by_probe}
+use Rattle.meaning.specs.Answer.{is_accepted, sheet_test, plan_made}
+use Rattle.meaning.specs.Telephone.{at_most, times_any, asked}
 use Rattle.laws.proofs.Telling.{blank, told, sheet-passed, tells-whole, tells-nothing}
 use Rattle.laws.proofs.Grounds.{hops-most}
 use Rattle.sheet.specs.declared.Tree.{Tree}
@@ -26,26 +26,26 @@ abbrev pub whole : List ℕ → Planned → Told
 whole s p =
     record {
       outcome = p.outcome;
-      least = leastSlots s;
+      least = least_slots s;
       ours = p.slots;
       most = at_most s p.colours;
-      times = timesAny p.colours p.slots (leastSlots s);
+      times = times_any p.colours p.slots (least_slots s);
     }
 
 abbrev pub nothing : Planned → Told
 nothing p = record { outcome = p.outcome; least = 0; ours = 0; most = 0; times = 0 }
 
-pub asked-tells : (s : List ℕ) → asked s ≡ told Packets byProbe s anyPlan (whole s) nothing
+pub asked-tells : (s : List ℕ) → asked s ≡ told Packets by_probe s any_plan (whole s) nothing
 unfolding asked
 asked-tells s = refl
 
-module _ (s : List ℕ) {planned : Planned} (is : planned ≡ (planMade byProbe s (length (blank anyPlan))).answer) where
+module _ (s : List ℕ) {planned : Planned} (is : planned ≡ (plan_made by_probe s (length (blank any_plan))).answer) where
   pub ask-refused : planned.outcome.number ≢ 0 → nothing planned ≡ asked s
-  ask-refused refused = tells-nothing Packets byProbe s anyPlan is (whole s) nothing refused ∙ sym (asked-tells s)
+  ask-refused refused = tells-nothing Packets by_probe s any_plan is (whole s) nothing refused ∙ sym (asked-tells s)
 
   module _ (passed : planned.outcome.number ≡ 0) {tree : Tree} (read : tree ≡ tree_of s) where
-    ok : isAccepted (sheetTest s) ≡ true
-    ok = sheet-passed Packets byProbe s anyPlan is passed
+    ok : is_accepted (sheet_test s) ≡ true
+    ok = sheet-passed Packets by_probe s any_plan is passed
 
     its : Standing s tree
     its = standing s ok tree read
@@ -54,10 +54,10 @@ module _ (s : List ℕ) {planned : Planned} (is : planned ≡ (planMade byProbe 
     most-fits product e = omega (arith, e, its.hops, hops-most s ok)
 
     pub ask-planned : {least slow most times : ℕ}
-        → least ≡ leastSlotsOf tree.probes (λ v. get_or tree.parents v 0) (λ v. get_or tree.packets v 0)
-        → slow ≡ slowestOf tree.probes (λ v. get_or tree.parents v 0) (λ v. get_or tree.packets v 0)
+        → least ≡ least_slots_of tree.probes (λ v. get_or tree.parents v 0) (λ v. get_or tree.packets v 0)
+        → slow ≡ slowest_of tree.probes (λ v. get_or tree.parents v 0) (λ v. get_or tree.packets v 0)
         → most ≡ min (planned.colours * slow) tree.hops
-        → times ≡ timesAny planned.colours planned.slots least
+        → times ≡ times_any planned.colours planned.slots least
         → (record { outcome = planned.outcome; least = least; ours = planned.slots; most = most; times = times }) ≡ asked s
     ask-planned {least} least-of slowest-of most-of times-of =
         let few = least-of ∙ least-slots-read s ok tree its in
@@ -70,8 +70,8 @@ module _ (s : List ℕ) {planned : Planned} (is : planned ≡ (planMade byProbe 
           least = l;
           ours = planned.slots;
           most = at_most s planned.colours;
-          times = timesAny planned.colours planned.slots l;
+          times = times_any planned.colours planned.slots l;
         })
         few
-        ∙ tells-whole Packets byProbe s anyPlan is (whole s) nothing passed
+        ∙ tells-whole Packets by_probe s any_plan is (whole s) nothing passed
         ∙ sym (asked-tells s)

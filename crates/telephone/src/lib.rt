@@ -1,6 +1,6 @@
 // The telephone: how long a reading takes, told of a sheet before anything is sent. The theorems about it stand in proofs/Limits.antt.
 ghost use Rattle.std.specs.Prelude.{◌≡◌, ◌*◌, min};
-ghost use Rattle.meaning.specs.Telephone.{timesAny, asked};
+ghost use Rattle.meaning.specs.Telephone.{times_any, asked};
 
 use meaning::Told;
 
@@ -17,7 +17,7 @@ fn at_most(colours: u8, slowest: u16, hops: u32) -> u32
 
 // Our slots by the fewest of any plan, rounded up, or the colours where they are fewer; 0 where no slot is needed.
 fn times_any(colours: u8, ours: u16, least: u16) -> u8
-    ensures { result ≡ timesAny colours ours least }
+    ensures { result ≡ times_any colours ours least }
 {
     if least == 0 {
         return 0;

@@ -4,9 +4,9 @@ use mathlib.Core.Bool.{Bool, true, false, cond}
 use mathlib.Core.Logic.{inl, inr, ⊎_elim}
 use Prim.Native.Nat.{ℕ}
 use lib.Dec.{eqb}
-use Rattle.files.specs.Status.{answered, refused, numberStatus, OrFailed, IsStatus}
+use Rattle.files.specs.Status.{answered, refused, number_status, OrFailed, IsStatus}
 
-pub said-status : (number r : ℕ) → OrFailed (numberStatus number) r → IsStatus r
+pub said-status : (number r : ℕ) → OrFailed (number_status number) r → IsStatus r
 said-status number r = go (eqb number 0)
   where
     go : (b : Bool) → OrFailed (cond b answered refused) r → IsStatus r

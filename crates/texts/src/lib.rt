@@ -1,8 +1,8 @@
 // Graphs by the program's arguments: a sheet's graph written as text, and a text of any length judged line by line and shown as a table.
 ghost use Rattle.std.specs.Prelude.{◌≡◌};
 ghost use Rattle.io.specs.Counts.{IsPrefixLen};
-ghost use Rattle.graph.specs.Drawing.{graphMade};
-ghost use Rattle.files.specs.Status.{answered, failed, numberStatus, statusOf, OrFailed, IsStatus};
+ghost use Rattle.graph.specs.Drawing.{graph_made};
+ghost use Rattle.files.specs.Status.{answered, failed, number_status, status_of, OrFailed, IsStatus};
 
 use files::{ANSWERED, FAILED, REFUSED, within};
 use graph::{Graph, Reading};
@@ -26,7 +26,7 @@ struct Seen {
 
 // Writes the sheet's graph to its file, and says how long it is; a refusal leaves the file alone.
 pub fn write_graph(to: i32, out: usize, sheet: &[u8]) -> u8
-    ensures { OrFailed (statusOf (graphMade sheet.now 15081).answer.outcome) result }
+    ensures { OrFailed (status_of (graph_made sheet.now 15081).answer.outcome) result }
 {
     let mut text = [0u8; graph::ANY_GRAPH];
     let drawn = draw::graph_made(sheet, &mut text);
@@ -120,7 +120,7 @@ fn say_table(vertices: u8, table: &[[bool; 65]; 65]) -> u8
 
 // Says what a text is: refused, or a table.
 fn say_graph(graph: Graph, table: &[[bool; 65]; 65]) -> u8
-    ensures { OrFailed (numberStatus graph.number) result }
+    ensures { OrFailed (number_status graph.number) result }
 {
     if graph.number == 0 {
         return say_table(graph.vertices, table);

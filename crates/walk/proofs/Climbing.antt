@@ -20,9 +20,9 @@ further (Arrives level) = Arrives (record { 0 = level.0 + 1 })
 further Never = Never
 
 -- the level of an answer, all of `left` where it has not arrived
-abbrev pub levelIn : ℕ → Walk → ℕ
-levelIn left (Arrives level) = level.0
-levelIn left Never = left
+abbrev pub level_in : ℕ → Walk → ℕ
+level_in left (Arrives level) = level.0
+level_in left Never = left
 
 module _ (parent : ℕ → ℕ) where
   pub climbed-here : (left v : ℕ) → v ≡ 1 → Arrives (record { 0 = 0 }) ≡ climbed parent left v
@@ -51,17 +51,17 @@ module _ (parent : ℕ → ℕ) where
       ∙ ap (λ (n : ℕ). climbed parent n v) one_more
 
   -- the level in an answer is `climb`, and so at most `left`
-  pub climbed-level : (left v : ℕ) → levelIn left (climbed parent left v) ≡ climb parent left v
+  pub climbed-level : (left v : ℕ) → level_in left (climbed parent left v) ≡ climb parent left v
   unfolding climbed
   climbed-level left v = go (reaches parent 1 left v) refl
     where
-      go : (b : Bool) → reaches parent 1 left v ≡ b → levelIn left (cond b (Arrives (record { 0 = climb parent left v })) Never) ≡ climb parent left v
+      go : (b : Bool) → reaches parent 1 left v ≡ b → level_in left (cond b (Arrives (record { 0 = climb parent left v })) Never) ≡ climb parent left v
       go true e = refl
       go false e = sym (climb-never parent left v e)
 
   pub climbed-most : (left v : ℕ) (walk : Walk) (level : Level) → walk ≡ climbed parent left v → walk ≡ Arrives level → level.0 ≤ left
   climbed-most left v walk level e is =
-      subst (λ (n : ℕ). n ≤ left) (sym (ap (levelIn left) (sym is ∙ e) ∙ climbed-level left v)) (climb-most parent left v)
+      subst (λ (n : ℕ). n ≤ left) (sym (ap (level_in left) (sym is ∙ e) ∙ climbed-level left v)) (climb-most parent left v)
 
 -- what a product of two bytes comes to at most
 pub product-most : (a b : ℕ) → a < 256 → b < 256 → a * b ≤ 65025

@@ -1,13 +1,13 @@
 // Walking from parent to parent, and what levels come to: hops and the depth of a yard. Tables are by node; outside them every number is 0.
 ghost use Rattle.std.specs.Prelude.{◌≡◌, ◌*◌, ◌≤◌, get_or};
-ghost use Rattle.meaning.specs.Words.{mostProbes, byNode};
-ghost use Rattle.meaning.specs.Yard.{climbed, hopsOf};
+ghost use Rattle.meaning.specs.Words.{most_probes, by_node};
+ghost use Rattle.meaning.specs.Yard.{climbed, hops_of};
 
 use meaning::{Level, Node, Walk};
 
 // Where the walk from a node ends, which has `left` hops to take.
 pub fn climb(parents: &[u8; 65], v: Node, left: u8) -> Walk
-    ensures { result ≡ climbed (byNode parents.now) left v.0 }
+    ensures { result ≡ climbed (by_node parents.now) left v.0 }
 {
     let node = v.0;
     if node == 1 {
@@ -33,7 +33,7 @@ fn hops_at(packets: &[u8; 65], levels: &[u8; 65], v: usize) -> u32
 
 // The sum over all probes of packets times level.
 pub fn hops(p: u8, packets: &[u8; 65], levels: &[u8; 65]) -> u32
-    ensures { result ≡ hopsOf p (byNode packets.now) (byNode levels.now) }
+    ensures { result ≡ hops_of p (by_node packets.now) (by_node levels.now) }
 {
     let mut hops: u32 = 0;
     let mut k: u8 = 0;
@@ -46,7 +46,7 @@ pub fn hops(p: u8, packets: &[u8; 65], levels: &[u8; 65]) -> u32
 
 // The deepest level of a probe, 0 with no probes.
 pub fn depth(p: u8, levels: &[u8; 65]) -> Level
-    ensures { result ≡ record { 0 = mostProbes p (byNode levels.now) } }
+    ensures { result ≡ record { 0 = most_probes p (by_node levels.now) } }
 {
     let mut deepest: u8 = 0;
     let mut k: u8 = 0;

@@ -11,55 +11,55 @@ use Rattle.meaning.specs.declared.Judgement.{Judgement}
 use Rattle.meaning.specs.Lister.{text, decimal, said}
 use Rattle.lines.specs.Fits.{Fits}
 use Rattle.lines.proofs.Fitting.{put-nothing}
-use Rattle.wording.specs.Worded.{ofSenders, subject, oneOrTwo, refusedLine, blamedLine, plannedLine, verdictLine, writtenLine}
+use Rattle.wording.specs.Worded.{of_senders, subject, one_or_two, refused_line, blamed_line, planned_line, verdict_line, written_line}
 
 -- whom a number is said of: senders that are put, or nobody
 module _ (number : ℕ) (senders : List ℕ) where
-  pub put-subject : {l after : List ℕ} {at end : ℕ} → ofSenders number ≡ true → Fits l at senders after end → Fits l at (subject number senders) after end
+  pub put-subject : {l after : List ℕ} {at end : ℕ} → of_senders number ≡ true → Fits l at senders after end → Fits l at (subject number senders) after end
   unfolding subject
   put-subject e f = rw e f
 
-  pub put-no-one : (l : List ℕ) (at : ℕ) → ofSenders number ≡ false → Fits l at (subject number senders) l at
+  pub put-no-one : (l : List ℕ) (at : ℕ) → of_senders number ≡ false → Fits l at (subject number senders) l at
   unfolding subject
   put-no-one l at e = rw e (put-nothing l at)
 
 -- two senders, or one
 module _ (two one : List ℕ) {l after : List ℕ} {at end number : ℕ} where
-  pub put_two : number ≡ 15 → Fits l at two after end → Fits l at (oneOrTwo number two one) after end
-  unfolding oneOrTwo
+  pub put_two : number ≡ 15 → Fits l at two after end → Fits l at (one_or_two number two one) after end
+  unfolding one_or_two
   put_two e f = rw (eq-eqb number 15 e) f
 
-  pub put_one : (number ≡ 15 → ⊥) → Fits l at one after end → Fits l at (oneOrTwo number two one) after end
-  unfolding oneOrTwo
+  pub put_one : (number ≡ 15 → ⊥) → Fits l at one after end → Fits l at (one_or_two number two one) after end
+  unfolding one_or_two
   put_one ne f = rw (ne_eqb number 15 ne) f
 
 -- the line of an answer where nothing is wrong, and where something is
 module _ (planned : Planned) where
   pub planned-line : planned.outcome.number ≡ 0
-      → plannedLine planned
+      → planned_line planned
       ≡ said "planned" planned.slots ++ said " slots," planned.colours ++ said " colours," (min planned.bytes 65535) ++ text " bytes\n"
-  unfolding plannedLine
+  unfolding planned_line
   planned-line e = rw (eq-eqb planned.outcome.number 0 e)
 
-  pub unplanned-line : (planned.outcome.number ≡ 0 → ⊥) → plannedLine planned ≡ refusedLine planned.outcome
-  unfolding plannedLine
+  pub unplanned-line : (planned.outcome.number ≡ 0 → ⊥) → planned_line planned ≡ refused_line planned.outcome
+  unfolding planned_line
   unplanned-line ne = rw (ne_eqb planned.outcome.number 0 ne)
 
 module _ (mode : Mode) (judgement : Judgement) where
-  pub passed-line : judgement.verdict.outcome.number ≡ 0 → verdictLine mode judgement ≡ said "passed" judgement.verdict.slots ++ text " slots\n"
-  unfolding verdictLine
+  pub passed-line : judgement.verdict.outcome.number ≡ 0 → verdict_line mode judgement ≡ said "passed" judgement.verdict.slots ++ text " slots\n"
+  unfolding verdict_line
   passed-line e = rw (eq-eqb judgement.verdict.outcome.number 0 e)
 
   pub failed-line : (judgement.verdict.outcome.number ≡ 0 → ⊥)
-      → verdictLine mode judgement ≡ blamedLine mode judgement.verdict.outcome judgement.names
-  unfolding verdictLine
+      → verdict_line mode judgement ≡ blamed_line mode judgement.verdict.outcome judgement.names
+  unfolding verdict_line
   failed-line ne = rw (ne_eqb judgement.verdict.outcome.number 0 ne)
 
 module _ (outcome : Outcome) (bytes : ℕ) where
-  pub written-line : outcome.number ≡ 0 → writtenLine outcome bytes ≡ text "written " ++ decimal 20 bytes ++ text " bytes\n"
-  unfolding writtenLine
+  pub written-line : outcome.number ≡ 0 → written_line outcome bytes ≡ text "written " ++ decimal 20 bytes ++ text " bytes\n"
+  unfolding written_line
   written-line e = rw (eq-eqb outcome.number 0 e)
 
-  pub unwritten-line : (outcome.number ≡ 0 → ⊥) → writtenLine outcome bytes ≡ refusedLine outcome
-  unfolding writtenLine
+  pub unwritten-line : (outcome.number ≡ 0 → ⊥) → written_line outcome bytes ≡ refused_line outcome
+  unfolding written_line
   unwritten-line ne = rw (ne_eqb outcome.number 0 ne)

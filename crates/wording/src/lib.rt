@@ -1,10 +1,10 @@
 // The front door's answers in words: each public function decides every byte of one, in a lent buffer.
 ghost use Rattle.std.specs.Prelude.{◌≡◌, ◌++◌, ◌≤◌, min, length, take};
 ghost use Rattle.meaning.specs.Lister.{text, refusal};
-ghost use Rattle.lines.specs.Line.{lineLength, lineIn};
+ghost use Rattle.lines.specs.Line.{line_length, line_in};
 ghost use Rattle.lines.specs.Fits.{Fits};
-ghost use Rattle.wording.specs.Worded.{ofSenders, subject, said_of, anySenders, theSenders, namedSenders};
-ghost use Rattle.wording.specs.Worded.{refusedLine, blamedLine, plannedLine, verdictLine, choiceLine, choiceText, writtenLine, misreadLine};
+ghost use Rattle.wording.specs.Worded.{of_senders, subject, said_of, any_senders, the_senders, named_senders};
+ghost use Rattle.wording.specs.Worded.{refused_line, blamed_line, planned_line, verdict_line, choice_line, choice_text, written_line, misread_line};
 
 use meaning::{Choice, Judgement, Mode, Names, Outcome, Planned};
 
@@ -13,14 +13,14 @@ pub const ANY_ANSWER: usize = 256;
 
 // Whether a number is said of senders of a slot.
 fn is_of_senders(number: u8) -> bool
-    ensures { result ≡ ofSenders number }
+    ensures { result ≡ of_senders number }
 {
     11 < number && number < 16
 }
 
 // Puts whom a number is said of, where nobody is named, at a place; says where that ends.
 fn put_any_senders(number: u8, out: &mut [u8], at: usize) -> usize
-    ensures { Fits out.old at (subject number (anySenders number)) out.new result }
+    ensures { Fits out.old at (subject number (any_senders number)) out.new result }
 {
     if !is_of_senders(number) {
         return at;
@@ -33,7 +33,7 @@ fn put_any_senders(number: u8, out: &mut [u8], at: usize) -> usize
 
 // Puts what a number says, where nobody is named, at a place; says where it ends.
 fn put_said_of_any(number: u8, out: &mut [u8], at: usize) -> usize
-    ensures { Fits out.old at (said_of Mode.Packets number (anySenders number)) out.new result }
+    ensures { Fits out.old at (said_of Mode.Packets number (any_senders number)) out.new result }
 {
     let a = put_any_senders(number, out, at);
     sayings::put_saying(number, out, a)
@@ -41,7 +41,7 @@ fn put_said_of_any(number: u8, out: &mut [u8], at: usize) -> usize
 
 // Puts senders by their names at a place, for 15 both; says where they end.
 fn put_the_senders(number: u8, names: Names, out: &mut [u8], at: usize) -> usize
-    ensures { Fits out.old at (theSenders number names) out.new result }
+    ensures { Fits out.old at (the_senders number names) out.new result }
 {
     let first = names.first as u16;
     if number != 15 {
@@ -54,7 +54,7 @@ fn put_the_senders(number: u8, names: Names, out: &mut [u8], at: usize) -> usize
 
 // Puts whom a refusal is said of by name, and their slot, at a place; says where that ends.
 fn put_named_senders(outcome: Outcome, names: Names, out: &mut [u8], at: usize) -> usize
-    ensures { Fits out.old at (subject outcome.number (namedSenders outcome names)) out.new result }
+    ensures { Fits out.old at (subject outcome.number (named_senders outcome names)) out.new result }
 {
     if !is_of_senders(outcome.number) {
         return at;
@@ -76,7 +76,7 @@ fn put_refusal(outcome: Outcome, out: &mut [u8], at: usize) -> usize
 
 // Puts the line of a refusal that names nobody at a place; says where it ends.
 fn put_refused(outcome: Outcome, out: &mut [u8], at: usize) -> usize
-    ensures { Fits out.old at (refusedLine outcome) out.new result }
+    ensures { Fits out.old at (refused_line outcome) out.new result }
 {
     let a = put_refusal(outcome, out, at);
     let b = put_said_of_any(outcome.number, out, a);
@@ -85,7 +85,7 @@ fn put_refused(outcome: Outcome, out: &mut [u8], at: usize) -> usize
 
 // Puts the line of a refusal by the judge of a mode at a place; says where it ends.
 fn put_blamed(mode: Mode, outcome: Outcome, names: Names, out: &mut [u8], at: usize) -> usize
-    ensures { Fits out.old at (blamedLine mode outcome names) out.new result }
+    ensures { Fits out.old at (blamed_line mode outcome names) out.new result }
 {
     let a = put_refusal(outcome, out, at);
     let b = put_named_senders(outcome, names, out, a);
@@ -102,7 +102,7 @@ fn few(bytes: usize) -> u16
 
 // Puts the line of a planner's answer at a place; says where it ends.
 fn put_planned(planned: Planned, out: &mut [u8], at: usize) -> usize
-    ensures { Fits out.old at (plannedLine planned) out.new result }
+    ensures { Fits out.old at (planned_line planned) out.new result }
 {
     let outcome = planned.outcome;
     if outcome.number != 0 {
@@ -119,7 +119,7 @@ fn put_planned(planned: Planned, out: &mut [u8], at: usize) -> usize
 
 // Puts the line of the answer of a mode's judge at a place; says where it ends.
 fn put_verdict(mode: Mode, judgement: Judgement, out: &mut [u8], at: usize) -> usize
-    ensures { Fits out.old at (verdictLine mode judgement) out.new result }
+    ensures { Fits out.old at (verdict_line mode judgement) out.new result }
 {
     let verdict = judgement.verdict;
     let outcome = verdict.outcome;
@@ -133,7 +133,7 @@ fn put_verdict(mode: Mode, judgement: Judgement, out: &mut [u8], at: usize) -> u
 
 // Puts which of two plans was chosen at a place; says where it ends.
 fn put_choice(choice: Choice, out: &mut [u8], at: usize) -> usize
-    ensures { Fits out.old at (choiceLine choice) out.new result }
+    ensures { Fits out.old at (choice_line choice) out.new result }
 {
     match choice {
         Choice::First => lines::put_words(b"first\n", out, at),
@@ -150,7 +150,7 @@ fn put_chosen(
     out: &mut [u8],
     at: usize,
 ) -> usize
-    ensures { Fits out.old at (choiceText choice first second) out.new result }
+    ensures { Fits out.old at (choice_text choice first second) out.new result }
 {
     let a = put_choice(choice, out, at);
     let b = lines::put_words(b"first: ", out, a);
@@ -161,7 +161,7 @@ fn put_chosen(
 
 // Puts the line of who writes a text, a sheet or a book at a place; says where it ends.
 fn put_written(outcome: Outcome, bytes: usize, out: &mut [u8], at: usize) -> usize
-    ensures { Fits out.old at (writtenLine outcome bytes) out.new result }
+    ensures { Fits out.old at (written_line outcome bytes) out.new result }
 {
     if outcome.number != 0 {
         return put_refused(outcome, out, at);
@@ -173,7 +173,7 @@ fn put_written(outcome: Outcome, bytes: usize, out: &mut [u8], at: usize) -> usi
 
 // Puts the refusal of a text at a place; says where it ends.
 fn put_misread(number: u8, place: u64, out: &mut [u8], at: usize) -> usize
-    ensures { Fits out.old at (misreadLine number place) out.new result }
+    ensures { Fits out.old at (misread_line number place) out.new result }
 {
     let a = lines::put_counted(b"refused ", number as u16, out, at);
     let b = lines::put_words(b" ", out, a);
@@ -186,8 +186,8 @@ fn put_misread(number: u8, place: u64, out: &mut [u8], at: usize) -> usize
 // A refusal in words, at the start of a lent buffer; says how many bytes it has, 0 and nothing written where they do not fit.
 pub fn refused(out: &mut [u8], outcome: Outcome) -> usize
     ensures part { (result ≤ length out.new) × (result ≡ length (take result out.new)) }
-    ensures answer { result ≡ lineLength out.old (refusedLine outcome) }
-    ensures buffer { out.new ≡ lineIn out.old (refusedLine outcome) }
+    ensures answer { result ≡ line_length out.old (refused_line outcome) }
+    ensures buffer { out.new ≡ line_in out.old (refused_line outcome) }
 {
     let mut line = [0u8; ANY_ANSWER];
     let n = put_refused(outcome, &mut line, 0);
@@ -197,8 +197,8 @@ pub fn refused(out: &mut [u8], outcome: Outcome) -> usize
 // The same of a planner's answer.
 pub fn planned(out: &mut [u8], planned: Planned) -> usize
     ensures part { (result ≤ length out.new) × (result ≡ length (take result out.new)) }
-    ensures answer { result ≡ lineLength out.old (plannedLine planned) }
-    ensures buffer { out.new ≡ lineIn out.old (plannedLine planned) }
+    ensures answer { result ≡ line_length out.old (planned_line planned) }
+    ensures buffer { out.new ≡ line_in out.old (planned_line planned) }
 {
     let mut line = [0u8; ANY_ANSWER];
     let n = put_planned(planned, &mut line, 0);
@@ -208,8 +208,8 @@ pub fn planned(out: &mut [u8], planned: Planned) -> usize
 // The same of the answer of a mode's judge.
 pub fn verdict(out: &mut [u8], mode: Mode, judgement: Judgement) -> usize
     ensures part { (result ≤ length out.new) × (result ≡ length (take result out.new)) }
-    ensures answer { result ≡ lineLength out.old (verdictLine mode judgement) }
-    ensures buffer { out.new ≡ lineIn out.old (verdictLine mode judgement) }
+    ensures answer { result ≡ line_length out.old (verdict_line mode judgement) }
+    ensures buffer { out.new ≡ line_in out.old (verdict_line mode judgement) }
 {
     let mut line = [0u8; ANY_ANSWER];
     let n = put_verdict(mode, judgement, &mut line, 0);
@@ -219,8 +219,8 @@ pub fn verdict(out: &mut [u8], mode: Mode, judgement: Judgement) -> usize
 // The same of a choice and the judge's answers on both plans.
 pub fn chosen(out: &mut [u8], choice: Choice, first: Judgement, second: Judgement) -> usize
     ensures part { (result ≤ length out.new) × (result ≡ length (take result out.new)) }
-    ensures answer { result ≡ lineLength out.old (choiceText choice first second) }
-    ensures buffer { out.new ≡ lineIn out.old (choiceText choice first second) }
+    ensures answer { result ≡ line_length out.old (choice_text choice first second) }
+    ensures buffer { out.new ≡ line_in out.old (choice_text choice first second) }
 {
     let mut text = [0u8; ANY_ANSWER];
     let n = put_chosen(choice, first, second, &mut text, 0);
@@ -230,8 +230,8 @@ pub fn chosen(out: &mut [u8], choice: Choice, first: Judgement, second: Judgemen
 // The same of the answer of who writes a text, a sheet or a book.
 pub fn written(out: &mut [u8], outcome: Outcome, bytes: usize) -> usize
     ensures part { (result ≤ length out.new) × (result ≡ length (take result out.new)) }
-    ensures answer { result ≡ lineLength out.old (writtenLine outcome bytes) }
-    ensures buffer { out.new ≡ lineIn out.old (writtenLine outcome bytes) }
+    ensures answer { result ≡ line_length out.old (written_line outcome bytes) }
+    ensures buffer { out.new ≡ line_in out.old (written_line outcome bytes) }
 {
     let mut line = [0u8; ANY_ANSWER];
     let n = put_written(outcome, bytes, &mut line, 0);
@@ -241,8 +241,8 @@ pub fn written(out: &mut [u8], outcome: Outcome, bytes: usize) -> usize
 // The same of a text that is refused.
 pub fn misread(out: &mut [u8], number: u8, place: u64) -> usize
     ensures part { (result ≤ length out.new) × (result ≡ length (take result out.new)) }
-    ensures answer { result ≡ lineLength out.old (misreadLine number place) }
-    ensures buffer { out.new ≡ lineIn out.old (misreadLine number place) }
+    ensures answer { result ≡ line_length out.old (misread_line number place) }
+    ensures buffer { out.new ≡ line_in out.old (misread_line number place) }
 {
     let mut line = [0u8; ANY_ANSWER];
     let n = put_misread(number, place, &mut line, 0);

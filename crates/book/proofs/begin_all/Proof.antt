@@ -2,8 +2,8 @@
 use mathlib.Core.Path.{◌≡◌, refl, ap, ◌∙◌}
 use Prim.Native.Nat.{◌-◌, ◌≤◌}
 use lib.ListN.{length}
-use Rattle.meaning.specs.Words.{byNode, forEach}
-use Rattle.book.specs.Layout.{allBegun}
+use Rattle.meaning.specs.Words.{by_node, for_each}
+use Rattle.book.specs.Layout.{all_begun}
 use Rattle.book.proofs.LayingOut.{begun-long, begin-next}
 use native.Mathlib.Omega.{arith}
 use borrow.Author.Rules.{rules}
@@ -11,13 +11,13 @@ use Rattle.book.proofs.begin_all.Statement.{statement}
 use Rattle.book.proofs.begin_all.Tie as tie
 
 abbrev invariant-loop : tie.invariant-loop
-invariant-loop p sends hears book₀ k₀ book k = (k ≤ p) × (length book ≡ length book₀) × (book ≡ allBegun k (byNode sends) (byNode hears) book₀)
+invariant-loop p sends hears book₀ k₀ book k = (k ≤ p) × (length book ≡ length book₀) × (book ≡ all_begun k (by_node sends) (by_node hears) book₀)
 
 abbrev decreases-loop : tie.decreases-loop
 decreases-loop p sends hears book₀ k₀ book k = p - k
 
 loop-holds : tie.Need-loop-init invariant-loop decreases-loop
-unfolding allBegun forEach
+unfolding all_begun for_each
 loop-holds c = (omega arith, refl, refl)
 
 cast-v : tie.Need-overflow-cast-v invariant-loop decreases-loop
@@ -58,7 +58,7 @@ loop-again c =
     let two = c.before.before.begin2.ensures in (
       omega arith,
       ap length two ∙ begun-long _ _ ∙ ap length one ∙ begun-long _ _ ∙ turn.invariant.1,
-      begin-next (byNode a.sends.now) (byNode a.hears.now) turn.k a.book.now _ _ _ turn.invariant.2 one two,
+      begin-next (by_node a.sends.now) (by_node a.hears.now) turn.k a.book.now _ _ _ turn.invariant.2 one two,
     )
 
 same_length : tie.Need-same-length invariant-loop decreases-loop

@@ -1,6 +1,6 @@
 -- `book::laid_out` meets its contract. The invariant: the lists of the first k probes have their places. The measure is what is left of p.
 use Prim.Native.Nat.{◌-◌}
-use Rattle.meaning.specs.Words.{byNode}
+use Rattle.meaning.specs.Words.{by_node}
 use Rattle.book.proofs.LayingOut.{Laid, laid-start, laid_next, laid-all, laid-sends, laid-hears}
 use native.Mathlib.Omega.{arith}
 use borrow.Author.Rules.{rules}
@@ -8,7 +8,7 @@ use Rattle.book.proofs.laid_out.Statement.{statement}
 use Rattle.book.proofs.laid_out.Tie as tie
 
 abbrev invariant-loop : tie.invariant-loop
-invariant-loop p parents end packets sends₀ hears₀ at₀ k₀ sends hears at k = Laid p (byNode parents) (byNode packets) end k sends hears at
+invariant-loop p parents end packets sends₀ hears₀ at₀ k₀ sends hears at k = Laid p (by_node parents) (by_node packets) end k sends hears at
 
 abbrev decreases-loop : tie.decreases-loop
 decreases-loop p parents end packets sends₀ hears₀ at₀ k₀ sends hears at k = p - k
@@ -86,7 +86,7 @@ loop-again : tie.Need-loop-preserved invariant-loop decreases-loop
 loop-again c =
     let a = c.before.before.before.before.args in
     let turn = c.before.before.before.loop in
-    laid_next a.p (byNode a.parents) (byNode a.t3) a.end turn.k turn.sends turn.hears turn.at c.before.in-branch.result
+    laid_next a.p (by_node a.parents) (by_node a.t3) a.end turn.k turn.sends turn.hears turn.at c.before.in-branch.result
     c.hearings.result turn.invariant c.before.before.loop-test.true c.before.before.before.before.requires (omega arith)
     c.before.in-branch.ensures c.hearings.ensures
 
@@ -94,7 +94,7 @@ returns : tie.Need-returns invariant-loop decreases-loop
 returns c =
     let a = c.before.before.args in
     let done = c.before.loop in
-    let all = laid-all a.p (byNode a.parents) (byNode a.t3) a.end done.k done.sends done.hears done.at done.invariant c.loop-test.false in
+    let all = laid-all a.p (by_node a.parents) (by_node a.t3) a.end done.k done.sends done.hears done.at done.invariant c.loop-test.false in
     ((laid-sends _ _ _ _ _ _ _ all, laid-hears _ _ _ _ _ _ _ all), all.next)
 
 pub laid-out-spec : {M : Type 1} → statement M

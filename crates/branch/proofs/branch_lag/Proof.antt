@@ -6,7 +6,7 @@ use mathlib.Core.Bool.{cond}
 use Prim.Native.Nat.{◌+◌, ◌-◌, ◌≤◌}
 use lib.ListN.{get_or}
 use Rattle.meaning.specs.Words.{most}
-use Rattle.meaning.specs.Yard.{reaches, lagOn}
+use Rattle.meaning.specs.Yard.{reaches, lag_on}
 use Rattle.branch.proofs.Walking.{most-next, lag-past}
 use native.Mathlib.Omega.{arith}
 use borrow.Author.Rules.{rules}
@@ -16,7 +16,7 @@ use Rattle.branch.proofs.branch_lag.Tie as tie
 abbrev invariant-loop : tie.invariant-loop
 invariant-loop p parents packets top most₀ k₀ so_far k =
     (k ≤ p)
-    × (so_far ≡ most k (λ i. cond (reaches (λ u. get_or parents u 0) top.0 p (i + 2)) (lagOn (λ u. get_or parents u 0) (λ u. get_or packets u 0) top.0 p 0 (i + 2)) 0))
+    × (so_far ≡ most k (λ i. cond (reaches (λ u. get_or parents u 0) top.0 p (i + 2)) (lag_on (λ u. get_or parents u 0) (λ u. get_or packets u 0) top.0 p 0 (i + 2)) 0))
     × (so_far ≤ 255)
 
 abbrev decreases-loop : tie.decreases-loop

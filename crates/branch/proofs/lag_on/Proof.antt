@@ -3,7 +3,7 @@
 use mathlib.Core.Path.{◌≡◌, refl, sym, ◌∙◌}
 use Prim.Native.Nat.{◌+◌, ◌≤◌}
 use lib.ListN.{get_or}
-use Rattle.meaning.specs.Yard.{lagOn}
+use Rattle.meaning.specs.Yard.{lag_on}
 use Rattle.laws.proofs.Walk.{lag-here}
 use Rattle.branch.proofs.Walking.{lag-last, lag-next}
 use native.Mathlib.Omega.{arith}
@@ -13,8 +13,8 @@ use Rattle.branch.proofs.lag_on.Tie as tie
 
 abbrev invariant-loop : tie.invariant-loop
 invariant-loop parents packets hops end node₀ lag₀ left₀ node lag left =
-    (lagOn (λ u. get_or parents u 0) (λ u. get_or packets u 0) end left lag node
-    ≡ lagOn (λ u. get_or parents u 0) (λ u. get_or packets u 0) end hops 0 node₀) × (lag + left ≤ hops)
+    (lag_on (λ u. get_or parents u 0) (λ u. get_or packets u 0) end left lag node
+    ≡ lag_on (λ u. get_or parents u 0) (λ u. get_or packets u 0) end hops 0 node₀) × (lag + left ≤ hops)
 
 abbrev decreases-loop : tie.decreases-loop
 decreases-loop parents packets hops end node₀ lag₀ left₀ node lag left = left

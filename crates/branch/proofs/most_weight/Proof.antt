@@ -7,7 +7,7 @@ use lib.ListN.{length, get_or}
 use mir.Val.{Fits}
 use mir.Syntax.{w8}
 use Rattle.meaning.specs.Words.{places, most}
-use Rattle.branch.specs.Weight.{weightOf}
+use Rattle.branch.specs.Weight.{weight_of}
 use Rattle.branch.proofs.Walking.{most-next, most-past}
 use native.Mathlib.Omega.{arith}
 use borrow.Author.Rules.{rules}
@@ -15,7 +15,7 @@ use Rattle.branch.proofs.most_weight.Statement.{statement}
 use Rattle.branch.proofs.most_weight.Tie as tie
 
 abbrev invariant-loop : tie.invariant-loop
-invariant-loop p what parents packets best₀ k₀ best k = (k ≤ p) × (best ≡ most k (λ i. weightOf what p (λ u. get_or parents u 0) (λ v. get_or packets v 0) (i + 2)))
+invariant-loop p what parents packets best₀ k₀ best k = (k ≤ p) × (best ≡ most k (λ i. weight_of what p (λ u. get_or parents u 0) (λ v. get_or packets v 0) (i + 2)))
 
 abbrev decreases-loop : tie.decreases-loop
 decreases-loop p what parents packets best₀ k₀ best k = p - k

@@ -3,7 +3,7 @@ use mathlib.Core.Path.{◌≡◌, sym, ap, ap₂, ◌∙◌}
 use Prim.Native.Nat.{ℕ, ◌+◌, ◌-◌, ◌*◌}
 use lib.ListN.{get_or}
 use Rattle.branch.specs.declared.Weighed.{Weighed}
-use Rattle.branch.specs.Weight.{weightOf}
+use Rattle.branch.specs.Weight.{weight_of}
 use borrow.Author.Rules.{rules}
 use Rattle.branch.proofs.weight.Statement.{statement}
 use Rattle.branch.proofs.weight.Tie as tie
@@ -30,9 +30,9 @@ hears-and-sends-requires : tie.Need-hears-and-sends-requires
 hears-and-sends-requires c κs = search rules
 
 -- what is weighed decides what it is
-as-weighed : (what it : Weighed) → what ≡ it → (p : ℕ) (parent packets : ℕ → ℕ) (top r : ℕ) → r ≡ weightOf it p parent packets top
-    → r ≡ weightOf what p parent packets top
-as-weighed what it e p parent packets top r is = is ∙ ap (λ (w : Weighed). weightOf w p parent packets top) (sym e)
+as-weighed : (what it : Weighed) → what ≡ it → (p : ℕ) (parent packets : ℕ → ℕ) (top r : ℕ) → r ≡ weight_of it p parent packets top
+    → r ≡ weight_of what p parent packets top
+as-weighed what it e p parent packets top r is = is ∙ ap (λ (w : Weighed). weight_of w p parent packets top) (sym e)
 
 returns : tie.Need-returns
 returns c = as-weighed _ _ c.enum_told.given.1 _ _ _ _ _ c.before.before.branch.ensures.0

@@ -1,9 +1,9 @@
 -- `channel::next` meets its contract. The invariant: the best of the nodes that the loop has come to.
 use Prim.Native.Nat.{◌≤◌, ◌<◌, ◌-◌, ◌+◌}
 use mathlib.Core.Path.{◌≡◌, refl, sym, ap, ◌∙◌}
-use Rattle.meaning.specs.Words.{forEach, places}
+use Rattle.meaning.specs.Words.{for_each, places}
 use Rattle.meaning.specs.Order.{better, next_of}
-use Rattle.laws.proofs.Turns.{forEach-one}
+use Rattle.laws.proofs.Turns.{for_each-one}
 use Rattle.channel.proofs.Choosing.{at-end}
 use native.Mathlib.Omega.{arith}
 use borrow.Author.Rules.{rules}
@@ -11,7 +11,7 @@ use Rattle.channel.proofs.next.Statement.{statement}
 use Rattle.channel.proofs.next.Tie as tie
 
 abbrev invariant-loop : tie.invariant-loop
-invariant-loop children listens p best₀ n k₀ best k = (k ≤ n) × (n ≡ p + 1) × (p ≤ 63) × (best < places) × (best ≡ forEach k (λ j. better children listens (1 + j)) 0)
+invariant-loop children listens p best₀ n k₀ best k = (k ≤ n) × (n ≡ p + 1) × (p ≤ 63) × (best < places) × (best ≡ for_each k (λ j. better children listens (1 + j)) 0)
 
 abbrev decreases-loop : tie.decreases-loop
 decreases-loop children listens p best₀ n k₀ best k = n - k
@@ -20,7 +20,7 @@ add-n : tie.Need-overflow-add-n invariant-loop decreases-loop
 add-n c = search rules
 
 loop-holds : tie.Need-loop-init invariant-loop decreases-loop
-unfolding forEach
+unfolding for_each
 loop-holds c = (omega arith, refl, c.requires, omega arith, refl)
 
 add-better : tie.Need-overflow-add-better invariant-loop decreases-loop
@@ -43,7 +43,7 @@ loop-again c =
       turn.invariant.1,
       turn.invariant.2,
       c.better.ensures.1,
-      c.better.ensures.0 ∙ ap (better start.children.now start.listens.now _) turn.invariant.4 ∙ sym (forEach-one _ (λ j. better start.children.now start.listens.now (1 + j)) 0),
+      c.better.ensures.0 ∙ ap (better start.children.now start.listens.now _) turn.invariant.4 ∙ sym (for_each-one _ (λ j. better start.children.now start.listens.now (1 + j)) 0),
     )
 
 returns : tie.Need-returns invariant-loop decreases-loop
@@ -51,7 +51,7 @@ unfolding next_of
 returns c =
     let turn = c.before.loop in
     let start = c.before.before.args in
-    (at-end (λ k. forEach k (λ j. better start.children.now start.listens.now (1 + j)) 0) _ _ _ (omega (arith, turn.invariant.0, turn.invariant.1)) (omega (arith, turn.invariant.1)) turn.invariant.4, turn.invariant.3)
+    (at-end (λ k. for_each k (λ j. better start.children.now start.listens.now (1 + j)) 0) _ _ _ (omega (arith, turn.invariant.0, turn.invariant.1)) (omega (arith, turn.invariant.1)) turn.invariant.4, turn.invariant.3)
 
 pub next-spec : {M : Type 1} → statement M
 next-spec =

@@ -2,7 +2,7 @@
 use mathlib.Core.Path.{ap}
 use Rattle.meaning.specs.declared.Verdict.{Verdict}
 use Rattle.meaning.specs.declared.Judgement.{Judgement}
-use Rattle.meaning.specs.Judge.{judgementIn}
+use Rattle.meaning.specs.Judge.{judgement_in}
 use Rattle.chooser.proofs.Choosing.{chosen}
 use borrow.Author.Rules.{rules}
 use Rattle.chooser.proofs.choice.Statement.{statement}
@@ -21,7 +21,7 @@ choose-by-requires : tie.Need-choose-by-requires
 choose-by-requires c κs = search rules
 
 returns : tie.Need-returns
-unfolding judgementIn
+unfolding judgement_in
 returns c =
     let second = c.before in
     let first = second.before in

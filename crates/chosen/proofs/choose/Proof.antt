@@ -5,7 +5,7 @@ use mathlib.Core.List.{List}
 use borrow.Author.Tests.{not-true}
 use lib.ListN.{length}
 use Rattle.meaning.specs.Conflict.{entry}
-use Rattle.chosen.specs.Kept.{flag, blockedBy, Joining}
+use Rattle.chosen.specs.Kept.{flag, blocked_by, Joining}
 use Rattle.chosen.proofs.FirstTaken.{unblocked, chosen-nobody, chosen-first}
 use borrow.Author.Rules.{rules}
 use Rattle.chosen.proofs.choose.Statement.{statement}
@@ -29,7 +29,7 @@ join-requires : tie.Need-join-requires
 join-requires c κs =
     let start = c.before.before.before.before.before.before.before in
     let fresh = start.requires.1.0 in
-    (start.requires.0, (ap length fresh, start.requires.1.1 ∙ unblocked _ ∙ ap (blockedBy (entry start.args.table.now)) (sym fresh)))
+    (start.requires.0, (ap length fresh, start.requires.1.1 ∙ unblocked _ ∙ ap (blocked_by (entry start.args.table.now)) (sym fresh)))
 
 any-of-requires-2 : tie.Need-any-of-requires-2
 any-of-requires-2 c κs = search rules

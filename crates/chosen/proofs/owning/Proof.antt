@@ -3,7 +3,7 @@ use mathlib.Core.Path.{refl}
 use mathlib.Core.Bool.{◌&&◌}
 use lib.Dec.{eqb}
 use lib.ListN.{get_or}
-use Rattle.meaning.specs.Rounds.{holds, ownersByProbe}
+use Rattle.meaning.specs.Rounds.{holds, owners_by_probe}
 use Prim.Native.Nat.{◌-◌}
 use Rattle.laws.proofs.Lists.{Becoming, becoming-start, becoming-next, becoming-whole}
 use borrow.Author.Rules.{rules}
@@ -43,7 +43,7 @@ loop-again c =
     becoming-next 65 l.i _ _ l.flags _ l.invariant c.before.before.loop-test.true refl
 
 returns : tie.Need-returns invariant-loop decreases-loop
-unfolding ownersByProbe
+unfolding owners_by_probe
 returns c = becoming-whole 65 _ _ _ c.before.loop.invariant c.loop-test.false
 
 pub owning-spec : {M : Type 1} → statement M

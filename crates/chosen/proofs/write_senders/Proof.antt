@@ -7,7 +7,7 @@ use lib.ListN.{length, get_or, set, length-set}
 use Rattle.meaning.specs.Conflict.{entry}
 use Rattle.meaning.specs.Rounds.{holds, joined}
 use Rattle.laws.proofs.Turns.{length-tab}
-use Rattle.chosen.proofs.Free.{freeBy, free-start, free-says, free-put, next-free}
+use Rattle.chosen.proofs.Free.{free_by, free-start, free-says, free-put, next-free}
 use Rattle.chosen.proofs.Writing.{Writing, writing_start, writing-put, written, fewer, long}
 use native.Mathlib.Omega.{arith}
 use borrow.Author.Rules.{rules}
@@ -16,7 +16,7 @@ use Rattle.chosen.proofs.write_senders.Tie as tie
 
 abbrev invariant-loop : tie.invariant-loop
 invariant-loop rest₀ p table held owners blocked free₀ n₀ k₀ rest free n k =
-    Writing (λ v. get_or (joined p (entry table) (holds held) owners) v false) p rest₀ rest n k × (free ≡ freeBy (entry table) (holds held) owners k)
+    Writing (λ v. get_or (joined p (entry table) (holds held) owners) v false) p rest₀ rest n k × (free ≡ free_by (entry table) (holds held) owners k)
 
 abbrev decreases-loop : tie.decreases-loop
 decreases-loop rest₀ p table held owners blocked free₀ n₀ k₀ rest free n k = p - k

@@ -6,13 +6,13 @@ use borrow.Author.Rules.{rules}
 use lib.ListN.{length, take, length-set}
 use Rattle.meaning.specs.Words.{tab}
 use Rattle.laws.proofs.Turns.{tab-next}
-use Rattle.conflict.specs.Heard.{heardIn}
+use Rattle.conflict.specs.Heard.{heard_in}
 use Rattle.conflict.proofs.Tables.{filled}
 use Rattle.conflict.proofs.heard.Statement.{statement}
 use Rattle.conflict.proofs.heard.Tie as tie
 
 abbrev invariant-loop : tie.invariant-loop
-invariant-loop probes parents pairs x up over out₀ y₀ out y = (y ≤ 65) × (length out ≡ 65) × (take y out ≡ tab y (heardIn probes parents pairs x up over))
+invariant-loop probes parents pairs x up over out₀ y₀ out y = (y ≤ 65) × (length out ≡ 65) × (take y out ≡ tab y (heard_in probes parents pairs x up over))
 
 abbrev decreases-loop : tie.decreases-loop
 decreases-loop probes parents pairs x up over out₀ y₀ out y = 65 - y

@@ -6,14 +6,14 @@ use borrow.Author.Rules.{rules}
 use lib.ListN.{length, take, length-set}
 use Rattle.meaning.specs.Words.{tab, places}
 use Rattle.laws.proofs.Turns.{tab-next}
-use Rattle.conflict.specs.Heard.{heardRow}
+use Rattle.conflict.specs.Heard.{heard_row}
 use Rattle.conflict.proofs.Tables.{filled}
 use Rattle.conflict.proofs.heard_table.Statement.{statement}
 use Rattle.conflict.proofs.heard_table.Tie as tie
 
 abbrev invariant-loop : tie.invariant-loop
 invariant-loop probes parents pairs t₀ x₀ t x =
-    (x ≤ 65) × (length t ≡ 65) × (take x t ≡ tab x (λ a. tab places (heardRow probes parents pairs a)))
+    (x ≤ 65) × (length t ≡ 65) × (take x t ≡ tab x (λ a. tab places (heard_row probes parents pairs a)))
 
 abbrev decreases-loop : tie.decreases-loop
 decreases-loop probes parents pairs t₀ x₀ t x = 65 - x

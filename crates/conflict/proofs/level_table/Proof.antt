@@ -8,12 +8,12 @@ use native.Mathlib.Omega.{arith}
 use borrow.Author.Rules.{rules}
 use lib.ListN.{length, get_or-eq_default, get_or}
 use Rattle.meaning.specs.Conflict.{table_of, entry}
-use Rattle.conflict.proofs.Tables.{no-marks, no-levels, empty-row, level-table-next, level-table-full, levelsMet}
+use Rattle.conflict.proofs.Tables.{no-marks, no-levels, empty-row, level-table-next, level-table-full, levels_met}
 use Rattle.conflict.proofs.level_table.Statement.{statement}
 use Rattle.conflict.proofs.level_table.Tie as tie
 
 abbrev invariant-loop : tie.invariant-loop
-invariant-loop p levels table t₀ n k₀ t k = (k ≤ p) × (t ≡ table_of (levelsMet k p (λ v. get_or levels v 0) (entry table)))
+invariant-loop p levels table t₀ n k₀ t k = (k ≤ p) × (t ≡ table_of (levels_met k p (λ v. get_or levels v 0) (entry table)))
 
 abbrev decreases-loop : tie.decreases-loop
 decreases-loop p levels table t₀ n k₀ t k = p - k
@@ -22,7 +22,7 @@ loop-holds : tie.Need-loop-init invariant-loop decreases-loop
 loop-holds c =
     let a = c.args in
     let level : ℕ → ℕ = λ v. get_or a.t2 v 0 in
-    (omega arith, no-marks 65 (levelsMet 0 a.p level (entry a.t3)) (no-levels a.p level (entry a.t3)))
+    (omega arith, no-marks 65 (levels_met 0 a.p level (entry a.t3)) (no-levels a.p level (entry a.t3)))
 
 add-x : tie.Need-overflow-add-x invariant-loop decreases-loop
 add-x c = search rules

@@ -6,20 +6,20 @@ use mathlib.Core.Bool.{false}
 use native.Mathlib.Omega.{arith}
 use borrow.Author.Rules.{rules}
 use lib.ListN.{length, get_or-eq_default, get_or}
-use Rattle.meaning.specs.Words.{forEach}
-use Rattle.conflict.specs.Marks.{levelsMarked}
+use Rattle.meaning.specs.Words.{for_each}
+use Rattle.conflict.specs.Marks.{levels_marked}
 use Rattle.conflict.proofs.Tables.{turn-other, turn-own, turn-none}
 use Rattle.conflict.proofs.mark_levels.Statement.{statement}
 use Rattle.conflict.proofs.mark_levels.Tie as tie
 
 abbrev invariant-loop : tie.invariant-loop
-invariant-loop t₀ p a levels row n k₀ t k = (k ≤ p) × (t ≡ levelsMarked k (λ v. get_or levels v 0) (λ y. get_or row y false) a.0 t₀)
+invariant-loop t₀ p a levels row n k₀ t k = (k ≤ p) × (t ≡ levels_marked k (λ v. get_or levels v 0) (λ y. get_or row y false) a.0 t₀)
 
 abbrev decreases-loop : tie.decreases-loop
 decreases-loop t₀ p a levels row n k₀ t k = p - k
 
 loop-holds : tie.Need-loop-init invariant-loop decreases-loop
-unfolding levelsMarked forEach
+unfolding levels_marked for_each
 loop-holds c = (omega arith, refl)
 
 add-y : tie.Need-overflow-add-y invariant-loop decreases-loop

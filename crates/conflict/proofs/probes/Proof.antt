@@ -6,13 +6,13 @@ use borrow.Author.Rules.{rules}
 use lib.ListN.{length, take, length-set}
 use Rattle.meaning.specs.Words.{tab}
 use Rattle.laws.proofs.Turns.{tab-next}
-use Rattle.conflict.specs.Heard.{probeAt}
+use Rattle.conflict.specs.Heard.{probe_at}
 use Rattle.conflict.proofs.Tables.{filled}
 use Rattle.conflict.proofs.probes.Statement.{statement}
 use Rattle.conflict.proofs.probes.Tie as tie
 
 abbrev invariant-loop : tie.invariant-loop
-invariant-loop p out₀ v₀ out v = (v ≤ 65) × (length out ≡ 65) × (take v out ≡ tab v (probeAt p))
+invariant-loop p out₀ v₀ out v = (v ≤ 65) × (length out ≡ 65) × (take v out ≡ tab v (probe_at p))
 
 abbrev decreases-loop : tie.decreases-loop
 decreases-loop p out₀ v₀ out v = 65 - v

@@ -1,7 +1,7 @@
 -- `dealer::asked` meets its contract: the four sentences are made in a line of their own, which has room for any, and handed on as a whole.
 use borrow.Author.Rules.{rules}
 use Rattle.lines.proofs.OwnLine.{line-end, line-counts, lent}
-use Rattle.dealer.specs.Sentences.{askedText}
+use Rattle.dealer.specs.Sentences.{asked_text}
 use Rattle.dealer.proofs.Spoken.{sentences-most}
 use Rattle.dealer.proofs.asked.Statement.{statement}
 use Rattle.dealer.proofs.asked.Tie as tie
@@ -25,7 +25,7 @@ same_length : tie.Need-same-length
 same_length c = search rules
 
 returns : tie.Need-returns
-unfolding askedText
+unfolding asked_text
 returns c =
     let said = c.before.before in
     rw (← lent (sentences-most _ _) said.before.before.before.before.put-sentences.ensures) said.or-refused.ensures

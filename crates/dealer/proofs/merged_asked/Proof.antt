@@ -1,7 +1,7 @@
 -- `dealer::merged_asked` meets its contract: the three sentences are made in a line of their own, which has room for any, and handed on as a whole.
 use borrow.Author.Rules.{rules}
 use Rattle.lines.proofs.OwnLine.{line-end, line-counts, lent}
-use Rattle.dealer.specs.Sentences.{mergedText}
+use Rattle.dealer.specs.Sentences.{merged_text}
 use Rattle.dealer.proofs.Spoken.{merged-most}
 use Rattle.dealer.proofs.merged_asked.Statement.{statement}
 use Rattle.dealer.proofs.merged_asked.Tie as tie
@@ -25,7 +25,7 @@ same_length : tie.Need-same-length
 same_length c = search rules
 
 returns : tie.Need-returns
-unfolding mergedText
+unfolding merged_text
 returns c =
     let said = c.before.before in
     rw (← lent (merged-most _ _) said.before.before.before.before.put-merged.ensures) said.or-refused.ensures

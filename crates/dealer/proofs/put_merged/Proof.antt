@@ -2,7 +2,7 @@
 use borrow.Author.Rules.{rules}
 use Rattle.meaning.specs.Lister.{text}
 use Rattle.lines.proofs.Fitting.{put_whole, put-behind}
-use Rattle.dealer.specs.Sentences.{mergedSaid, mergedSentences}
+use Rattle.dealer.specs.Sentences.{merged_said, merged_sentences}
 use Rattle.dealer.proofs.put_merged.Statement.{statement}
 use Rattle.dealer.proofs.put_merged.Tie as tie
 
@@ -28,7 +28,7 @@ same_length : tie.Need-same-length
 same_length c = search rules
 
 returns : tie.Need-returns
-unfolding text mergedSaid mergedSentences
+unfolding text merged_said merged_sentences
 returns c =
     let end = c.before.before in
     let most = end.before.before.before.before.before in

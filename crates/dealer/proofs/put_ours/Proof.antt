@@ -2,7 +2,7 @@
 use borrow.Author.Rules.{rules}
 use Rattle.meaning.specs.Lister.{text}
 use Rattle.lines.proofs.Fitting.{put_whole, put-behind}
-use Rattle.dealer.specs.Sentences.{oursSaid}
+use Rattle.dealer.specs.Sentences.{ours_said}
 use Rattle.dealer.proofs.put_ours.Statement.{statement}
 use Rattle.dealer.proofs.put_ours.Tie as tie
 
@@ -25,7 +25,7 @@ same_length : tie.Need-same-length
 same_length c = search rules
 
 returns : tie.Need-returns
-unfolding text oursSaid
+unfolding text ours_said
 returns c =
     let end = c.before.before in
     let time = end.before.before.before.before.before in

@@ -2,7 +2,7 @@
 use borrow.Author.Rules.{rules}
 use Rattle.meaning.specs.Lister.{text}
 use Rattle.lines.proofs.Fitting.{put-behind}
-use Rattle.dealer.specs.Sentences.{leastSaid, sentences}
+use Rattle.dealer.specs.Sentences.{least_said, sentences}
 use Rattle.dealer.proofs.put_sentences.Statement.{statement}
 use Rattle.dealer.proofs.put_sentences.Tie as tie
 
@@ -25,7 +25,7 @@ same_length : tie.Need-same-length
 same_length c = search rules
 
 returns : tie.Need-returns
-unfolding text leastSaid sentences
+unfolding text least_said sentences
 returns c =
     let end = c.before.before in
     let most = end.before.before.before.before in

@@ -2,7 +2,7 @@
 use borrow.Author.Rules.{rules}
 use Rattle.meaning.specs.Lister.{text}
 use Rattle.lines.proofs.Fitting.{put_whole, put-behind}
-use Rattle.dealer.specs.Sentences.{spreadText}
+use Rattle.dealer.specs.Sentences.{spread_text}
 use Rattle.dealer.proofs.put_spread.Statement.{statement}
 use Rattle.dealer.proofs.put_spread.Tie as tie
 
@@ -28,7 +28,7 @@ same_length : tie.Need-same-length
 same_length c = search rules
 
 returns : tie.Need-returns
-unfolding text spreadText
+unfolding text spread_text
 returns c =
     let end = c.before.before in
     let worst = end.before.before.before.before.before in

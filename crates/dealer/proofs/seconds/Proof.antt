@@ -3,7 +3,7 @@ use mathlib.Core.Path.{ap}
 use Prim.Native.Nat.{ℕ, ◌+◌, ◌*◌, ◌/◌, ◌≤◌}
 use native.Mathlib.Nat.{mul-le-mul}
 use native.Mathlib.Omega.{arith}
-use Rattle.dealer.specs.SlotLength.{secondsOf}
+use Rattle.dealer.specs.SlotLength.{seconds_of}
 use borrow.Author.Rules.{rules}
 use Rattle.dealer.proofs.seconds.Statement.{statement}
 use Rattle.dealer.proofs.seconds.Tie as tie
@@ -28,7 +28,7 @@ add-result : tie.Need-overflow-add-result
 add-result c = record { fits = omega (arith, product c, c.before.requires) }
 
 returns : tie.Need-returns
-unfolding secondsOf
+unfolding seconds_of
 returns c = (
   ap (λ (slot : ℕ). (c.before.args.slots * slot + c.before.args.rounding) / 1000) c.at-most-a-minute.ensures,
   omega (arith, product c, c.before.requires),

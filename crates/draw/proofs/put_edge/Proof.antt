@@ -2,14 +2,14 @@
 use borrow.Author.Rules.{rules}
 use Rattle.meaning.specs.Lister.{text}
 use Rattle.lines.proofs.Fitting.{put_whole, put-behind, put_if, put-if-not}
-use Rattle.graph.specs.Drawing.{edgeLine}
+use Rattle.graph.specs.Drawing.{edge_line}
 use Rattle.draw.proofs.put_edge.Statement.{statement}
 use Rattle.draw.proofs.put_edge.Tie as tie
 
 returns : tie.Need-returns
 returns c =
     let a = c.before.before.args in
-    put-if-not a.out.now a.at (edgeLine a.a a.b) a.is c.if1.true
+    put-if-not a.out.now a.at (edge_line a.a a.b) a.is c.if1.true
 
 slice-aggregate-put-counted : tie.Need-slice-aggregate-put-counted
 slice-aggregate-put-counted c = search rules
@@ -33,7 +33,7 @@ same_length : tie.Need-same-length
 same_length c = search rules
 
 returns-2 : tie.Need-returns-2
-unfolding text edgeLine
+unfolding text edge_line
 returns-2 c =
     let last = c.before.before in
     let second = last.before.before.before.before.before in

@@ -3,7 +3,7 @@ use mathlib.Core.Path.{◌≡◌, refl}
 use Prim.Native.Nat.{◌-◌, ◌≤◌}
 use lib.ListN.{length}
 use Rattle.lines.specs.Fits.{Fits}
-use Rattle.graph.specs.Drawing.{texts, rowText}
+use Rattle.graph.specs.Drawing.{texts, row_text}
 use Rattle.graph.proofs.TextsPut.{texts-start, texts-next, texts-all}
 use native.Mathlib.Omega.{arith}
 use borrow.Author.Rules.{rules}
@@ -12,7 +12,7 @@ use Rattle.draw.proofs.put_edges.Tie as tie
 
 abbrev invariant-loop : tie.invariant-loop
 invariant-loop table out₀ at end₀ x₀ out end x =
-    (x ≤ 65) × (length out ≡ length out₀) × Fits out₀ at (texts x (rowText table)) out end
+    (x ≤ 65) × (length out ≡ length out₀) × Fits out₀ at (texts x (row_text table)) out end
 
 abbrev decreases-loop : tie.decreases-loop
 decreases-loop table out₀ at end₀ x₀ out end x = 65 - x

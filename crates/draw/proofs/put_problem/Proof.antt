@@ -2,7 +2,7 @@
 use borrow.Author.Rules.{rules}
 use Rattle.meaning.specs.Lister.{text}
 use Rattle.lines.proofs.Fitting.{put_whole, put-behind}
-use Rattle.graph.specs.Drawing.{problemLine}
+use Rattle.graph.specs.Drawing.{problem_line}
 use Rattle.draw.proofs.put_problem.Statement.{statement}
 use Rattle.draw.proofs.put_problem.Tie as tie
 
@@ -28,7 +28,7 @@ same_length : tie.Need-same-length
 same_length c = search rules
 
 returns : tie.Need-returns
-unfolding text problemLine
+unfolding text problem_line
 returns c =
     let last = c.before.before in
     let second = last.before.before.before.before.before in

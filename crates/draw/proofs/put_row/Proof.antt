@@ -9,7 +9,7 @@ use Rattle.meaning.specs.Conflict.{entry}
 use Rattle.lines.specs.Fits.{Fits}
 use Rattle.lines.proofs.Fitting.{put_same}
 use Rattle.graph.specs.Table.{Table}
-use Rattle.graph.specs.Drawing.{texts, edgeLine, edgeText, rowText}
+use Rattle.graph.specs.Drawing.{texts, edge_line, edge_text, row_text}
 use Rattle.graph.proofs.TextsPut.{texts-start, texts-next, texts-all}
 use native.Mathlib.Omega.{arith}
 use borrow.Author.Rules.{rules}
@@ -18,15 +18,15 @@ use Rattle.draw.proofs.put_row.Tie as tie
 
 -- one place of a row more
 row_next : {l mid after : List ℕ} {at next end : ℕ} (table : Table) (x y a b : ℕ) → a ≡ x - 1 → b ≡ y - 1
-    → Fits l at (texts y (edgeText table x)) mid next → Fits mid next (cond (ltb x y && entry table x y) (edgeLine a b) []) after end
-    → Fits l at (texts (y + 1) (edgeText table x)) after end
+    → Fits l at (texts y (edge_text table x)) mid next → Fits mid next (cond (ltb x y && entry table x y) (edge_line a b) []) after end
+    → Fits l at (texts (y + 1) (edge_text table x)) after end
 row_next table x y a b smaller larger before edge =
-    texts-next y (edgeText table x) before
-    (put_same (ap₂ (λ (v w : ℕ). cond (ltb x y && entry table x y) (edgeLine v w) []) smaller larger) edge)
+    texts-next y (edge_text table x) before
+    (put_same (ap₂ (λ (v w : ℕ). cond (ltb x y && entry table x y) (edge_line v w) []) smaller larger) edge)
 
 abbrev invariant-loop : tie.invariant-loop
 invariant-loop table x out₀ at a end₀ y₀ out end y =
-    (y ≤ 65) × (length out ≡ length out₀) × (a ≡ x - 1) × Fits out₀ at (texts y (edgeText table x)) out end
+    (y ≤ 65) × (length out ≡ length out₀) × (a ≡ x - 1) × Fits out₀ at (texts y (edge_text table x)) out end
 
 abbrev decreases-loop : tie.decreases-loop
 decreases-loop table x out₀ at a end₀ y₀ out end y = 65 - y
@@ -71,7 +71,7 @@ same_length : tie.Need-same-length invariant-loop decreases-loop
 same_length c = c.before.loop.invariant.1
 
 returns : tie.Need-returns invariant-loop decreases-loop
-unfolding rowText
+unfolding row_text
 returns c =
     let done = c.before.loop in
     texts-all _ (omega arith) done.invariant.3

@@ -5,7 +5,7 @@ use lib.ListN.{length, take, length-set}
 use Rattle.meaning.specs.Words.{tab}
 use Rattle.meaning.specs.Conflict.{entry}
 use Rattle.laws.proofs.Turns.{tab-next, tab-full}
-use Rattle.gateway.specs.Rows.{word, rowWords}
+use Rattle.gateway.specs.Rows.{word, row_words}
 use native.Mathlib.Omega.{arith}
 use borrow.Author.Rules.{rules}
 use Rattle.gateway.proofs.row_words.Statement.{statement}
@@ -55,7 +55,7 @@ loop-again c =
     )
 
 returns : tie.Need-returns invariant-loop decreases-loop
-unfolding rowWords
+unfolding row_words
 returns c =
     let done = c.before.loop in
     let full : done.j ≡ 64 = omega arith in

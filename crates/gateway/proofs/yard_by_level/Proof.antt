@@ -1,6 +1,6 @@
 -- `gateway::yard_by_level` meets its contract: the planner's own, with its answer laid out for C.
 use mathlib.Core.Path.{ap, ◌∙◌}
-use Rattle.gateway.specs.Flat.{flatPlanned}
+use Rattle.gateway.specs.Flat.{flat_planned}
 use borrow.Author.Rules.{rules}
 use Rattle.gateway.proofs.yard_by_level.Statement.{statement}
 use Rattle.gateway.proofs.yard_by_level.Tie as tie
@@ -19,7 +19,7 @@ same_length c = search rules
 
 -- src/lib.rt:66:1
 returns : tie.Need-returns
-returns c = (c.planned.ensures ∙ ap flatPlanned c.before.before.before.by_level.ensures.0, c.before.before.before.by_level.ensures.1)
+returns c = (c.planned.ensures ∙ ap flat_planned c.before.before.before.by_level.ensures.0, c.before.before.before.by_level.ensures.1)
 
 pub yard-by-level-spec : {M : Type 1} → statement M
 yard-by-level-spec = tie.close (tie.spec by-level-requires planned-requires same_length returns)

@@ -5,14 +5,14 @@ use Prim.Native.Nat.{◌≤◌, ◌+◌, ◌-◌, ◌*◌}
 use lib.ListN.{get_or}
 use Rattle.meaning.specs.Words.{sum}
 use Rattle.laws.proofs.Turns.{sum_one}
-use Rattle.graph.specs.Table.{edgesOf, edges}
+use Rattle.graph.specs.Table.{edges_of, edges}
 use native.Mathlib.Omega.{arith}
 use borrow.Author.Rules.{rules}
 use Rattle.graph.proofs.edges.Statement.{statement}
 use Rattle.graph.proofs.edges.Tie as tie
 
 abbrev invariant-loop : tie.invariant-loop
-invariant-loop table n₀ x₀ n x = (x ≤ 65) × (n ≤ 65 * x) × (n ≡ sum x (λ k. edgesOf (get_or table k []) k))
+invariant-loop table n₀ x₀ n x = (x ≤ 65) × (n ≤ 65 * x) × (n ≡ sum x (λ k. edges_of (get_or table k []) k))
 
 abbrev decreases-loop : tie.decreases-loop
 decreases-loop table n₀ x₀ n x = 65 - x

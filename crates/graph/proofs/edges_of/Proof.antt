@@ -6,7 +6,7 @@ use lib.Dec.{ltb}
 use lib.ListN.{get_or}
 use Rattle.meaning.specs.Words.{sum, count}
 use Rattle.laws.proofs.Turns.{sum_one}
-use Rattle.graph.specs.Table.{edgesOf}
+use Rattle.graph.specs.Table.{edges_of}
 use native.Mathlib.Omega.{arith}
 use borrow.Author.Rules.{rules}
 use Rattle.graph.proofs.edges_of.Statement.{statement}
@@ -43,7 +43,7 @@ loop-again c =
     (omega arith, omega arith, ap₂ ◌+◌ turn.invariant.2 c.one-if.ensures.0 ∙ sym (sum_one _ _))
 
 returns : tie.Need-returns invariant-loop decreases-loop
-unfolding edgesOf
+unfolding edges_of
 returns c =
     let done = c.before.loop in
     let full : done.y ≡ 65 = omega arith in

@@ -3,7 +3,7 @@ use mathlib.Core.Path.{ap}
 use mathlib.Core.Logic.{inl}
 use native.Mathlib.Omega.{arith}
 use Rattle.meaning.specs.declared.Tested.{Tested}
-use Rattle.meaning.specs.Words.{byNode}
+use Rattle.meaning.specs.Words.{by_node}
 use Rattle.slot.proofs.Places.{part-read}
 use Rattle.judge.proofs.SlotTurn.{turn-short, turn-refused, turn-passed, outcome-tested, names-tested, names-passed, names-unnamed}
 use borrow.Author.Rules.{rules}
@@ -46,8 +46,8 @@ returns-2 c =
     let few = start.requires.1.few in
     let is = tested.tested.ensures in (
       turn-refused _ _ _ here start.requires.0 _ _ _ _ _ _ _ tested.before.before.before.if1.false start.requires.1
-          (outcome-tested _ _ _ here start.requires.0 a.mode _ (byNode a.parents.now) few _ _ _ _ is) c.if2.true,
-      names-tested _ _ _ here start.requires.0 a.mode _ (byNode a.parents.now) few _ _ _ _ is,
+          (outcome-tested _ _ _ here start.requires.0 a.mode _ (by_node a.parents.now) few _ _ _ _ is) c.if2.true,
+      names-tested _ _ _ here start.requires.0 a.mode _ (by_node a.parents.now) few _ _ _ _ is,
     )
 
 send-requires : tie.Need-send-requires
@@ -64,8 +64,8 @@ returns-3 c =
     let none = c.before.before.if2.false in
     let is = tested.tested.ensures in (
       turn-passed _ _ _ here start.requires.0 _ _ _ _ _ _ _ tested.before.before.before.if1.false start.requires.1
-          (outcome-tested _ _ _ here start.requires.0 a.mode _ (byNode a.parents.now) few _ _ _ _ is) none _ c.send.ensures,
-      names-passed _ _ _ here start.requires.0 a.mode _ (byNode a.parents.now) few _ _ _ _ is none _ _,
+          (outcome-tested _ _ _ here start.requires.0 a.mode _ (by_node a.parents.now) few _ _ _ _ is) none _ c.send.ensures,
+      names-passed _ _ _ here start.requires.0 a.mode _ (by_node a.parents.now) few _ _ _ _ is none _ _,
     )
 
 pub slot-judged-spec : {M : Type 1} → statement M

@@ -3,7 +3,7 @@ use mathlib.Core.Path.{◌≡◌, refl, sym, ◌∙◌}
 use mathlib.Core.Logic.{inl}
 use Prim.Native.Nat.{◌-◌}
 use native.Mathlib.Omega.{arith}
-use Rattle.meaning.specs.Words.{byNode}
+use Rattle.meaning.specs.Words.{by_node}
 use Rattle.meaning.specs.Conflict.{entry}
 use Rattle.meaning.specs.Judge.{nobody}
 use Rattle.laws.proofs.Naming.{names-else}
@@ -14,7 +14,7 @@ use Rattle.judge.proofs.slots_judged.Tie as tie
 
 abbrev invariant-loop : tie.invariant-loop
 invariant-loop mode p parents table plan many held₀ tested₀ at₀ k₀ held tested at k =
-    Going mode p (byNode parents) (entry table) plan many held₀ k tested.outcome at held × (tested.names ≡ nobody)
+    Going mode p (by_node parents) (entry table) plan many held₀ k tested.outcome at held × (tested.names ≡ nobody)
 
 abbrev decreases-loop : tie.decreases-loop
 decreases-loop mode p parents table plan many held₀ tested₀ at₀ k₀ held tested at k = many - k
@@ -23,7 +23,7 @@ loop-holds : tie.Need-loop-init invariant-loop decreases-loop
 loop-holds c =
     let a = c.before.args in
     let pre = c.before.requires in
-    (going-starts a.mode a.p (byNode a.parents.now) (entry a.table.now) a.plan.now a.many a.held.now pre.0 pre.1, refl)
+    (going-starts a.mode a.p (by_node a.parents.now) (entry a.table.now) a.plan.now a.many a.held.now pre.0 pre.1, refl)
 
 add-t16 : tie.Need-overflow-add-t16 invariant-loop decreases-loop
 add-t16 c = search rules

@@ -1,5 +1,5 @@
 -- `lines::numbers_line` meets its contract: the parts of the line are put one behind the other, where the buffer has room for all of them.
-use Rattle.meaning.specs.Lister.{text, numbersLine}
+use Rattle.meaning.specs.Lister.{text, numbers_line}
 use Rattle.lines.proofs.Putting.{put-more, put-long}
 use Rattle.lines.proofs.Lined.{line-short, line-put, numbers-short, numbers-room}
 use native.Mathlib.Omega.{arith}
@@ -56,7 +56,7 @@ returns : tie.Need-returns
 returns c =
     let third = c.before.before.before in
     let a = third.before.before.before.before.args in
-    line-short _ (numbersLine a.colours a.slots a.packets a.heaviest a.least)
+    line-short _ (numbers_line a.colours a.slots a.packets a.heaviest a.least)
     (numbers-short _ _ _ _ _ _ _ _ _ _ _ third.before.before.digits.ensures.0 third.before.digits2.ensures.0 third.digits3.ensures.0
     c.before.before.digits4.ensures.0 c.before.digits5.ensures.0 c.if1.true)
 
@@ -120,7 +120,7 @@ same_length : tie.Need-same-length
 same_length c = search rules
 
 returns-2 : tie.Need-returns-2
-unfolding text numbersLine
+unfolding text numbers_line
 returns-2 c =
     let last = c.before.before in
     let fifth = last.before.before.before.before.before in

@@ -2,7 +2,7 @@
 use mathlib.Core.Path.{◌≡◌, refl, ◌∙◌}
 use Prim.Native.Nat.{◌-◌, ◌≤◌}
 use lib.ListN.{length, take}
-use Rattle.meaning.specs.Lister.{sendersText}
+use Rattle.meaning.specs.Lister.{senders_text}
 use Rattle.lines.specs.Line.{Put}
 use Rattle.lines.proofs.Putting.{put-long}
 use Rattle.lines.proofs.SendersText.{senders-start, senders-room, senders-put, senders-all}
@@ -12,7 +12,7 @@ use Rattle.lines.proofs.put_senders.Statement.{statement}
 use Rattle.lines.proofs.put_senders.Tie as tie
 
 abbrev invariant-loop : tie.invariant-loop
-invariant-loop senders out₀ at end₀ i₀ out end i = (i ≤ length senders) × (length out ≡ length out₀) × Put out₀ at (sendersText (take i senders)) out end
+invariant-loop senders out₀ at end₀ i₀ out end i = (i ≤ length senders) × (length out ≡ length out₀) × Put out₀ at (senders_text (take i senders)) out end
 
 abbrev decreases-loop : tie.decreases-loop
 decreases-loop senders out₀ at end₀ i₀ out end i = length senders - i

@@ -1,5 +1,5 @@
 -- `lines::refusal_line` meets its contract: the parts of the line are put one behind the other, where the buffer has room for all of them.
-use Rattle.meaning.specs.Lister.{text, refusalLine}
+use Rattle.meaning.specs.Lister.{text, refusal_line}
 use Rattle.lines.proofs.Putting.{put-more}
 use Rattle.lines.proofs.Lined.{line-short, line-put, refusal-short, refusal-room}
 use borrow.Author.Rules.{rules}
@@ -35,7 +35,7 @@ add-need-2 c = search rules
 
 returns : tie.Need-returns
 returns c =
-    line-short _ (refusalLine c.before.before.before.before.before.args.outcome)
+    line-short _ (refusal_line c.before.before.before.before.before.args.outcome)
     (refusal-short _ _ _ _ _ c.before.before.digits.ensures.0 c.before.digits2.ensures.0 c.if1.true)
 
 slice-aggregate-put-said : tie.Need-slice-aggregate-put-said

@@ -1,7 +1,7 @@
 -- `lines::slot_line` meets its contract: the parts of the line are put one behind the other, where the buffer has room for all of them.
 use Prim.Native.Nat.{◌+◌, ◌≤◌}
 use lib.ListN.{length}
-use Rattle.meaning.specs.Lister.{decimal, text, sendersText, slotLine}
+use Rattle.meaning.specs.Lister.{decimal, text, senders_text, slot_line}
 use Rattle.lines.proofs.Putting.{put-more, put-long}
 use Rattle.lines.proofs.Lined.{line-short, line-put, slot-length}
 use Rattle.lines.proofs.SendersText.{slot-short, slot-room}
@@ -13,7 +13,7 @@ use Rattle.lines.proofs.slot_line.Tie as tie
 -- behind the test there is room for the parts of the line
 room : (c : tie.Else1)
     → let a = c.before.before.before.before.args in
-    2 + length (decimal 5 a.number.0) + length (sendersText a.senders.now) ≤ length a.out.now
+    2 + length (decimal 5 a.number.0) + length (senders_text a.senders.now) ≤ length a.out.now
 room c =
     let a = c.before.before.before.before.args in
     omega (
@@ -28,7 +28,7 @@ slot-fits-requires c κs = search rules
 returns : tie.Need-returns
 returns c =
     let a = c.before.before.before.before.args in
-    line-short _ (slotLine a.number.0 a.senders.now) (slot-short _ _ _ _ c.before.slot-fits.ensures c.if1.true)
+    line-short _ (slot_line a.number.0 a.senders.now) (slot-short _ _ _ _ c.before.slot-fits.ensures c.if1.true)
 
 cast-put-digits : tie.Need-overflow-cast-put-digits
 cast-put-digits c = search rules
@@ -70,7 +70,7 @@ same_length : tie.Need-same-length
 same_length c = search rules
 
 returns-2 : tie.Need-returns-2
-unfolding text slotLine
+unfolding text slot_line
 returns-2 c =
     let senders = c.before.before.before.before.before.before.before in
     let colon = senders.before.before.before.before in

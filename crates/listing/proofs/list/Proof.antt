@@ -3,7 +3,7 @@ use mathlib.Core.Path.{◌≡◌}
 use mathlib.Core.List.{List}
 use Prim.Native.Nat.{ℕ}
 use lib.ListN.{length, replicate, length-replicate}
-use Rattle.meaning.specs.Plan.{anyPlan}
+use Rattle.meaning.specs.Plan.{any_plan}
 use Rattle.listing.proofs.Listed.{list-short, list-refused, sheet-passed, head-within, lines-room, lines_end, list-planned}
 use native.Mathlib.Omega.{arith}
 use borrow.Author.Rules.{rules}
@@ -12,10 +12,10 @@ use Rattle.listing.proofs.list.Tie as tie
 
 -- the buffer for the plan, as it is made
 abbrev blank : List ℕ
-blank = replicate anyPlan 0
+blank = replicate any_plan 0
 
-long : length blank ≡ anyPlan
-long = length-replicate {A = ℕ} anyPlan 0
+long : length blank ≡ any_plan
+long = length-replicate {A = ℕ} any_plan 0
 
 returns : tie.Need-returns
 returns c =

@@ -3,12 +3,12 @@ use mathlib.Core.Path.{refl}
 use mathlib.Core.Bool.{false}
 use Rattle.meaning.specs.Words.{places}
 use Rattle.conflict.proofs.Tables.{no-marks}
-use Rattle.graph.specs.Table.{noEdges}
+use Rattle.graph.specs.Table.{no_edges}
 use Rattle.parse.proofs.clear.Statement.{statement}
 use Rattle.parse.proofs.clear.Tie as tie
 
 returns : tie.Need-returns
-unfolding noEdges
+unfolding no_edges
 returns c = no-marks places (λ _ _. false) (λ _ _. refl)
 
 pub clear_spec : {M : Type 1} → statement M

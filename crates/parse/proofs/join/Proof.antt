@@ -1,6 +1,6 @@
 -- `parse::join` meets its contract: the two marks are the definition's.
 use borrow.Author.Rules.{rules}
-use Rattle.graph.specs.Table.{withEdge}
+use Rattle.graph.specs.Table.{with_edge}
 use Rattle.parse.proofs.join.Statement.{statement}
 use Rattle.parse.proofs.join.Tie as tie
 
@@ -17,7 +17,7 @@ mark-requires-2 : tie.Need-mark-requires-2
 mark-requires-2 c κs = search rules
 
 returns : tie.Need-returns
-unfolding withEdge
+unfolding with_edge
 returns c = cc
 
 pub join-spec : {M : Type 1} → statement M

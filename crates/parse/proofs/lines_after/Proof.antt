@@ -4,13 +4,13 @@ use native.Mathlib.Omega.{arith}
 use lib.ListN.{length}
 use borrow.Author.Rules.{rules}
 use Rattle.meaning.specs.Words.{Bytes}
-use Rattle.parse.specs.Piece.{linesAfter}
+use Rattle.parse.specs.Piece.{lines_after}
 use Rattle.parse.proofs.Whole.{Going, lent, line-long, next-within, going-starts, going-stops, going_on, going-ends}
 use Rattle.parse.proofs.lines_after.Statement.{statement}
 use Rattle.parse.proofs.lines_after.Tie as tie
 
 abbrev invariant-loop : tie.invariant-loop
-invariant-loop piece table₀ so-far₀ at₀ table so_far at = Going piece (linesAfter (record { state = so-far₀; table = table₀ }) piece) table so_far at
+invariant-loop piece table₀ so-far₀ at₀ table so_far at = Going piece (lines_after (record { state = so-far₀; table = table₀ }) piece) table so_far at
 
 abbrev decreases-loop : tie.decreases-loop
 decreases-loop piece table₀ so-far₀ at₀ table so_far at = length piece - at

@@ -1,6 +1,6 @@
 -- `parse::may_stand` meets its contract: each arm is the definition's clause for its line.
 use borrow.Author.Rules.{rules}
-use Rattle.graph.specs.Reading.{mayStand}
+use Rattle.graph.specs.Reading.{may_stand}
 use Rattle.parse.proofs.may_stand.Statement.{statement}
 use Rattle.parse.proofs.may_stand.Tie as tie
 
@@ -20,19 +20,19 @@ enum-told-2 : tie.Need-enum-told-2
 enum-told-2 c = search rules
 
 returns : tie.Need-returns
-unfolding mayStand
+unfolding may_stand
 returns c = rw c.enum_told.given.1
 
 returns-2 : tie.Need-returns-2
-unfolding mayStand
+unfolding may_stand
 returns-2 c = rw c.before.before.line.given.1
 
 returns-3 : tie.Need-returns-3
-unfolding mayStand
+unfolding may_stand
 returns-3 c = rw (c.before.is-joined.ensures, c.before.before.before.line2.given.1)
 
 returns-4 : tie.Need-returns-4
-unfolding mayStand
+unfolding may_stand
 returns-4 c = rw c.enum-told2.given.1
 
 pub may-stand-spec : {M : Type 1} → statement M

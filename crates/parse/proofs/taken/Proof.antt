@@ -4,7 +4,7 @@ use Prim.Native.Nat.{◌≤◌}
 use native.Mathlib.Omega.{arith}
 use borrow.Author.Rules.{rules}
 use Rattle.graph.specs.Reading.{taken, counted}
-use Rattle.parse.specs.Vertices.{verticesSaid}
+use Rattle.parse.specs.Vertices.{vertices_said}
 use Rattle.parse.proofs.LineTaken.{no-problem}
 use Rattle.parse.proofs.taken.Statement.{statement}
 use Rattle.parse.proofs.taken.Tie as tie
@@ -16,10 +16,10 @@ enum-known-line : tie.Need-enum-known-line
 enum-known-line c = search rules
 
 cast-next : tie.Need-overflow-cast-next
-unfolding verticesSaid
+unfolding vertices_said
 cast-next c =
     let start = c.before.before.before.before in
-    let few : verticesSaid start.args.line ≤ 63 = start.requires in
+    let few : vertices_said start.args.line ≤ 63 = start.requires in
     omega (arith, rw c.before.line.given.1 at few)
 
 returns : tie.Need-returns

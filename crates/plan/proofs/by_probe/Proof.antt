@@ -6,7 +6,7 @@ use lib.ListN.{length}
 use Rattle.meaning.specs.declared.Mode.TheVariants.{Packets}
 use Rattle.meaning.specs.Plan.{front}
 use Rattle.meaning.specs.Rounds.{Way}
-use Rattle.meaning.specs.Answer.{planMadeIn}
+use Rattle.meaning.specs.Answer.{plan_made_in}
 use Rattle.plan.proofs.Answered.{of-packets}
 use borrow.Author.Rules.{rules}
 use Rattle.plan.proofs.by_probe.Statement.{statement}
@@ -23,8 +23,8 @@ returns c =
     let a = c.before.before.before.before.before.before.args in
     let made = c.before.before.by-probe-in.ensures in
     let room = length a.buf.now in (
-      made.0 ∙ ap (λ (by : List ℕ → Way). (planMadeIn Packets by a.sheet.now room).answer) of-packets,
-      made.1 ∙ ap (λ (by : List ℕ → Way). front a.buf.now (planMadeIn Packets by a.sheet.now room).written) of-packets,
+      made.0 ∙ ap (λ (by : List ℕ → Way). (plan_made_in Packets by a.sheet.now room).answer) of-packets,
+      made.1 ∙ ap (λ (by : List ℕ → Way). front a.buf.now (plan_made_in Packets by a.sheet.now room).written) of-packets,
     )
 
 pub by-probe-spec : {M : Type 1} → statement M

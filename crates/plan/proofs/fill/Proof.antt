@@ -5,7 +5,7 @@ use Prim.Native.Nat.{ℕ, ◌-◌}
 use lib.ListN.{length, take, drop, length-drop, length-set}
 use Rattle.meaning.specs.Rounds.{rounds}
 use Rattle.plan.specs.ColourTurn.{Ready}
-use Rattle.plan.specs.TurnByTurn.{goesBy, wayBy, from, Going, heldBy}
+use Rattle.plan.specs.TurnByTurn.{goes_by, way_by, from, Going, held_by}
 use Rattle.plan.proofs.TurnByTurn.{part-from}
 use Rattle.plan.proofs.Filling.{filled, slots-most}
 use native.Mathlib.Omega.{arith}
@@ -33,7 +33,7 @@ run-requires c κs =
     sym (length-drop 2 a.buf.now) ∙ ap length (sym (part-from a.buf.now 2))
     in
     let first = c.before.before.before.first-held in
-    subst₂ (λ (h : List ℕ) (r : ℕ). Ready a.way.probes (goesBy a.way) h r) (sym first.ensures) room start.requires.ready
+    subst₂ (λ (h : List ℕ) (r : ℕ). Ready a.way.probes (goes_by a.way) h r) (sym first.ensures) room start.requires.ready
 
 cast-buf : tie.Need-overflow-cast-buf
 cast-buf c = search rules
@@ -60,16 +60,16 @@ returns c =
     let start = c.before.before.before.before.before.before.before.before in
     let a = start.args in
     let by = a.way in
-    let way = wayBy by a.t3 in
+    let way = way_by by a.t3 in
     let run = c.before.before.run in
     let made = run.result in
-    let first = heldBy by.mode by.probes a.packets in
+    let first = held_by by.mode by.probes a.packets in
     let last : List ℕ = run.new.1.1.1.0 in
     let part : List ℕ = run.new.1.1.1.1.0 in
     let most = slots-most by a.t3 first (length a.buf.now - 2) a.sendings start.requires.ready in
-    filled by.probes (goesBy by) (rounds way a.sendings (from first)) last a.buf.now part made.bytes made.slots start.requires.two
+    filled by.probes (goes_by by) (rounds way a.sendings (from first)) last a.buf.now part made.bytes made.slots start.requires.two
     (omega (arith, start.requires.few, most))
-    (subst₂ (λ (lent held : List ℕ). Going by.probes (goesBy by) (rounds way a.sendings (from held)) last lent part made.bytes made.slots)
+    (subst₂ (λ (lent held : List ℕ). Going by.probes (goes_by by) (rounds way a.sendings (from held)) last lent part made.bytes made.slots)
     (part-from a.buf.now 2) c.before.before.before.before.before.before.first-held.ensures run.ensures)
 
 pub fill_spec : {M : Type 1} → statement M

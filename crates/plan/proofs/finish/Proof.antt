@@ -3,9 +3,9 @@ use mathlib.Core.Path.{◌≡◌, ap, ◌∙◌, subst}
 use mathlib.Core.List.{List}
 use Prim.Native.Nat.{ℕ, ◌≤◌}
 use lib.ListN.{length}
-use Rattle.meaning.specs.Plan.{planBytes, front}
+use Rattle.meaning.specs.Plan.{plan_bytes, front}
 use Rattle.meaning.specs.Answer.{accepted}
-use Rattle.plan.specs.TurnByTurn.{codeWay, heldBy, slots_by, Filled}
+use Rattle.plan.specs.TurnByTurn.{code_way, held_by, slots_by, Filled}
 use Rattle.plan.specs.Answered.{Finished}
 use native.Mathlib.Omega.{arith}
 use borrow.Author.Rules.{rules}
@@ -17,11 +17,11 @@ finished : {plan plan' : List (List ℕ)} {m bytes slots : ℕ} {buffer buffer' 
     → Finished plan' m buffer buffer' (record { outcome = accepted; colours = m; slots = slots; bytes = bytes })
 finished {m} {buffer} same filled =
     let many = filled.made ∙ ap length same in
-    let long = filled.counted ∙ ap (λ (l : List (List ℕ)). length (planBytes l)) same in
+    let long = filled.counted ∙ ap (λ (l : List (List ℕ)). length (plan_bytes l)) same in
     record {
       few = subst (λ (l : List (List ℕ)). length l ≤ 65535) same filled.few;
       answers = λ i. record { outcome = accepted; colours = m; slots = many i; bytes = long i };
-      wrote = filled.wrote ∙ ap (λ (l : List (List ℕ)). front buffer (planBytes l)) same;
+      wrote = filled.wrote ∙ ap (λ (l : List (List ℕ)). front buffer (plan_bytes l)) same;
     }
 
 sendings-in-requires : tie.Need-sendings-in-requires
@@ -52,8 +52,8 @@ returns-2 c =
     let fill = c.before.before.before in
     let a = fill.before.before.before.before.before.before.args in
     let tree = a.tree in
-    let held = heldBy a.mode tree.probes tree.packets in
-    let by = codeWay a.mode tree.probes tree.parents a.own a.m in
+    let held = held_by a.mode tree.probes tree.packets in
+    let by = code_way a.mode tree.probes tree.parents a.own a.m in
     finished (ap (λ (n : ℕ). slots_by by a.table n held) fill.before.before.sendings-in.ensures) fill.fill.ensures
 
 pub finish_spec : {M : Type 1} → statement M

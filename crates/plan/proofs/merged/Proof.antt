@@ -6,7 +6,7 @@ use lib.ListN.{length}
 use Rattle.meaning.specs.declared.Mode.TheVariants.{Merged}
 use Rattle.meaning.specs.Plan.{front}
 use Rattle.meaning.specs.Rounds.{Way}
-use Rattle.meaning.specs.Answer.{planMadeIn}
+use Rattle.meaning.specs.Answer.{plan_made_in}
 use Rattle.plan.proofs.Answered.{of-readings}
 use borrow.Author.Rules.{rules}
 use Rattle.plan.proofs.merged.Statement.{statement}
@@ -23,8 +23,8 @@ returns c =
     let a = c.before.before.before.before.before.before.args in
     let made = c.before.before.by-probe-in.ensures in
     let room = length a.buf.now in (
-      made.0 ∙ ap (λ (by : List ℕ → Way). (planMadeIn Merged by a.sheet.now room).answer) of-readings,
-      made.1 ∙ ap (λ (by : List ℕ → Way). front a.buf.now (planMadeIn Merged by a.sheet.now room).written) of-readings,
+      made.0 ∙ ap (λ (by : List ℕ → Way). (plan_made_in Merged by a.sheet.now room).answer) of-readings,
+      made.1 ∙ ap (λ (by : List ℕ → Way). front a.buf.now (plan_made_in Merged by a.sheet.now room).written) of-readings,
     )
 
 pub merged-spec : {M : Type 1} → statement M

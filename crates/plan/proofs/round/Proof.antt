@@ -2,10 +2,10 @@
 use mathlib.Core.Path.{◌≡◌, refl, sym, ap, ◌∙◌, subst}
 use Prim.Native.Nat.{ℕ, ◌-◌, ◌≤◌}
 use lib.ListN.{length, take, drop, length-drop}
-use Rattle.meaning.specs.Words.{byNode}
-use Rattle.meaning.specs.Rounds.{Progress, goesIn}
+use Rattle.meaning.specs.Words.{by_node}
+use Rattle.meaning.specs.Rounds.{Progress, goes_in}
 use Rattle.plan.specs.ColourTurn.{Ready}
-use Rattle.plan.specs.TurnByTurn.{codeWay, Going}
+use Rattle.plan.specs.TurnByTurn.{code_way, Going}
 use Rattle.plan.proofs.TurnByTurn.{turns, turns-all, going_start, going_next, going-long, part-from}
 use native.Mathlib.Omega.{arith}
 use borrow.Author.Rules.{rules}
@@ -14,7 +14,7 @@ use Rattle.plan.proofs.round.Tie as tie
 
 abbrev invariant-loop : tie.invariant-loop
 invariant-loop mode p parents table own m held₀ rest₀ at₀ slots₀ s₀ held rest at slots s =
-    (s ≤ m) × Going p (goesIn mode (byNode parents)) (turns (codeWay mode p parents own m) table s held₀) held rest₀ rest at slots
+    (s ≤ m) × Going p (goes_in mode (by_node parents)) (turns (code_way mode p parents own m) table s held₀) held rest₀ rest at slots
 
 abbrev decreases-loop : tie.decreases-loop
 decreases-loop mode p parents table own m held₀ rest₀ at₀ slots₀ s₀ held rest at slots s = m - s
@@ -22,7 +22,7 @@ decreases-loop mode p parents table own m held₀ rest₀ at₀ slots₀ s₀ he
 loop-holds : tie.Need-loop-init invariant-loop decreases-loop
 loop-holds c =
     let a = c.before.args in
-    let by = codeWay a.mode a.p a.parents.now a.own.now a.m in
+    let by = code_way a.mode a.p a.parents.now a.own.now a.m in
     (search rules, going_start by a.table.now a.held.now a.rest.now c.before.requires)
 
 add-t14 : tie.Need-overflow-add-t14 invariant-loop decreases-loop
@@ -48,7 +48,7 @@ turn-requires c κs =
     let room : length a.rest.now - l.at ≡ length (take (length l.rest - l.at) (drop l.at l.rest)) =
     ap (λ (n : ℕ). n - l.at) (sym (going-long l.invariant.1)) ∙ sym (length-drop l.at l.rest) ∙ ap length (sym (part-from l.rest l.at))
     in
-    subst (λ (r : ℕ). Ready a.p (goesIn a.mode (byNode a.parents.now)) l.held r) room l.invariant.1.ready
+    subst (λ (r : ℕ). Ready a.p (goes_in a.mode (by_node a.parents.now)) l.held r) room l.invariant.1.ready
 
 add_at : tie.Need-overflow-add-at invariant-loop decreases-loop
 add_at c =
@@ -87,8 +87,8 @@ returns c =
     let a = c.before.before.before.args in
     let l = c.before.loop in
     let all : l.s ≡ a.m = omega (arith, l.invariant.0) in
-    let by = codeWay a.mode a.p a.parents.now a.own.now a.m in
-    subst (λ (now : Progress). Going a.p (goesIn a.mode (byNode a.parents.now)) now l.held a.rest.now l.rest l.at l.slots)
+    let by = code_way a.mode a.p a.parents.now a.own.now a.m in
+    subst (λ (now : Progress). Going a.p (goes_in a.mode (by_node a.parents.now)) now l.held a.rest.now l.rest l.at l.slots)
     (ap (λ (k : ℕ). turns by a.table.now k a.held.now) all ∙ turns-all by a.table.now a.held.now)
     l.invariant.1
 

@@ -6,10 +6,10 @@ use Prim.Native.Nat.{ℕ, ◌+◌, ◌-◌, ◌≤◌}
 use borrow.Author.Tests.{not-true, not-false}
 use lib.ListN.{length, take, drop, length-drop}
 use Rattle.meaning.specs.Rounds.{Progress, outside, rounds}
-use Rattle.laws.specs.Few.{atMost63}
+use Rattle.laws.specs.Few.{at_most63}
 use Rattle.laws.proofs.Few.{as_many}
 use Rattle.plan.specs.ColourTurn.{Ready}
-use Rattle.plan.specs.TurnByTurn.{goesBy, wayBy, from, Going}
+use Rattle.plan.specs.TurnByTurn.{goes_by, way_by, from, Going}
 use Rattle.plan.proofs.TurnByTurn.{rounds-start, rounds-stop, going-round, going-long, part-from}
 use native.Mathlib.Omega.{arith}
 use borrow.Author.Rules.{rules}
@@ -17,12 +17,12 @@ use Rattle.plan.proofs.run.Statement.{statement}
 use Rattle.plan.proofs.run.Tie as tie
 
 -- at most 63 probes: `any_outside` looks at all of them
-within-yard : (p : ℕ) (held : List ℕ) (r : Bool) → p ≤ 63 → r ≡ outside (atMost63 p) held → r ≡ outside p held
+within-yard : (p : ℕ) (held : List ℕ) (r : Bool) → p ≤ 63 → r ≡ outside (at_most63 p) held → r ≡ outside p held
 within-yard p held r small e = e ∙ ap (λ (n : ℕ). outside n held) (as_many p small)
 
 abbrev invariant-loop : tie.invariant-loop
 invariant-loop table sendings held₀ rest₀ way mode p m at₀ slots₀ r₀ held rest at slots r =
-    (r ≤ sendings) × Going way.probes (goesBy way) (rounds (wayBy way table) r (from held₀)) held rest₀ rest at slots
+    (r ≤ sendings) × Going way.probes (goes_by way) (rounds (way_by way table) r (from held₀)) held rest₀ rest at slots
 
 abbrev decreases-loop : tie.decreases-loop
 decreases-loop table sendings held₀ rest₀ way mode p m at₀ slots₀ r₀ held rest at slots r = sendings - r
@@ -46,10 +46,10 @@ returns c =
     let way = a.t1 in
     let l = loop.loop in
     let none = within-yard way.probes l.held _ start.requires.small c.before.any-outside.ensures in
-    let home : outside way.probes (rounds (wayBy way a.table.now) l.r (from a.held.now)).held ≡ false =
+    let home : outside way.probes (rounds (way_by way a.table.now) l.r (from a.held.now)).held ≡ false =
     subst (λ (h : List ℕ). outside way.probes h ≡ false) l.invariant.1.holding (sym none ∙ not-true c.before.any-outside.result c.if1.true)
     in
-    subst (λ (now : Progress). Going way.probes (goesBy way) now l.held a.rest.now l.rest l.at l.slots)
+    subst (λ (now : Progress). Going way.probes (goes_by way) now l.held a.rest.now l.rest l.at l.slots)
     (sym (rounds-stop way a.table.now l.r a.sendings a.held.now l.invariant.0 home)) l.invariant.1
 
 sub-round : tie.Need-overflow-sub-round invariant-loop decreases-loop
@@ -73,7 +73,7 @@ round-requires c κs =
     let room : length a.rest.now - l.at ≡ length (take (length l.rest - l.at) (drop l.at l.rest)) =
     ap (λ (n : ℕ). n - l.at) (sym (going-long l.invariant.1)) ∙ sym (length-drop l.at l.rest) ∙ ap length (sym (part-from l.rest l.at))
     in
-    subst (λ (r : ℕ). Ready a.t1.probes (goesBy a.t1) l.held r) room l.invariant.1.ready
+    subst (λ (r : ℕ). Ready a.t1.probes (goes_by a.t1) l.held r) room l.invariant.1.ready
 
 -- where a round follows, something is outside
 still-outside : (c : tie.Else1 invariant-loop decreases-loop)
@@ -131,8 +131,8 @@ returns-2 c =
     let way = a.t1 in
     let l = c.before.loop in
     let all : l.r ≡ a.sendings = omega (arith, l.invariant.0) in
-    let after : ℕ → Progress = λ n. rounds (wayBy way a.table.now) n (from a.held.now) in
-    subst (λ (n : ℕ). Going way.probes (goesBy way) (after n) l.held a.rest.now l.rest l.at l.slots) all l.invariant.1
+    let after : ℕ → Progress = λ n. rounds (way_by way a.table.now) n (from a.held.now) in
+    subst (λ (n : ℕ). Going way.probes (goes_by way) (after n) l.held a.rest.now l.rest l.at l.slots) all l.invariant.1
 
 pub run_spec : {M : Type 1} → statement M
 run_spec =

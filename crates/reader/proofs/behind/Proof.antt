@@ -30,7 +30,7 @@ use denote.Triple.Call.{calls_at}
 use denote.Triple.Spec.{triple_of}
 use denote.Triple.Walked.{says}
 use denote.Triple.Clauses.{ensured, lasts}
-use Rattle.slot.specs.Place.{slotAt}
+use Rattle.slot.specs.Place.{slot_at}
 use Rattle.reader.specs.declared.Reader.{Reader}
 use Rattle.slot.specs.declared.SlotAt.{SlotAt}
 use Rattle.reader.proofs.Reader.TheLaws as T'
@@ -57,7 +57,7 @@ module _ {M : Type 1} {𝓤 : Ura M} (𝓛 : Logic 𝓤) (mem : Memory → SProp
   Place = triple_of 𝓛 callee.signature (callee.spec 𝓛 mem run)
 
   abbrev found : SlotAt
-  found = slotAt d.plan.now d.at
+  found = slot_at d.plan.now d.at
 
   abbrev to : Place.Ghost
   to = (((κ, tt), (q, tt), tt, (d.plan, (d.at, tt)), passed d), tt)

@@ -1,8 +1,8 @@
 -- `reader::note` meets its contract: the tests of the code decide whether the list has room for a number and its count for one more.
 use mathlib.Core.Path.{sym, ap, ◌∙◌}
 use Prim.Native.Nat.{◌+◌, ◌<◌}
-use Rattle.meaning.specs.Sheet.{twoAt}
-use Rattle.reader.specs.Noted.{twoSet}
+use Rattle.meaning.specs.Sheet.{two_at}
+use Rattle.reader.specs.Noted.{two_set}
 use Rattle.reader.proofs.NotingBytes.{no_room, no-count, noted-there}
 use native.Mathlib.Omega.{arith}
 use borrow.Author.Rules.{rules}
@@ -99,10 +99,10 @@ returns-5 c =
     let a = c.before.before.before.before.before.before.before.before.before.before.before.before.before.before.before.args in
     let known = c.before.before.before.before.before.before.before.before.before.before.slice-known3 in
     let book = a.book.now in
-    let many = twoAt book a.place in
+    let many = two_at book a.place in
     let fits : many < 65535 = omega (arith, known.given a.place, known.given (a.place + 1), c.before.before.before.before.before.before.before.before.if4.false) in
     c.before.before.put-two2.ensures
-    ∙ ap (twoSet a.place (many + 1)) c.before.before.before.before.before.before.put_two.ensures
+    ∙ ap (two_set a.place (many + 1)) c.before.before.before.before.before.before.put_two.ensures
     ∙ sym (noted-there a.place a.slot.0 book (omega (arith, c.before.before.before.before.before.before.before.before.before.if3.false)) fits)
 
 pub note-spec : {M : Type 1} → statement M

@@ -2,8 +2,8 @@
 use mathlib.Core.Path.{◌≡◌, refl}
 use Prim.Native.Nat.{◌-◌, ◌≤◌}
 use lib.ListN.{length, get_or}
-use Rattle.meaning.specs.Words.{forEach}
-use Rattle.reader.specs.Noted.{notedSender, notedSlot}
+use Rattle.meaning.specs.Words.{for_each}
+use Rattle.reader.specs.Noted.{noted_sender, noted_slot}
 use Rattle.reader.proofs.NotingBytes.{sender-kept, sender-next}
 use native.Mathlib.Omega.{arith}
 use borrow.Author.Rules.{rules}
@@ -12,13 +12,13 @@ use Rattle.reader.proofs.note_slot.Tie as tie
 
 abbrev invariant-loop : tie.invariant-loop
 invariant-loop places senders book₀ number i₀ book i =
-    (i ≤ length senders) × (length book ≡ length book₀) × (book ≡ forEach i (λ j. notedSender places number (get_or senders j 0)) book₀)
+    (i ≤ length senders) × (length book ≡ length book₀) × (book ≡ for_each i (λ j. noted_sender places number (get_or senders j 0)) book₀)
 
 abbrev decreases-loop : tie.decreases-loop
 decreases-loop places senders book₀ number i₀ book i = length senders - i
 
 loop-holds : tie.Need-loop-init invariant-loop decreases-loop
-unfolding forEach
+unfolding for_each
 loop-holds c = (omega arith, refl, refl)
 
 shared-slice-read-note-sender : tie.Need-shared-slice-read-note-sender invariant-loop decreases-loop
@@ -44,7 +44,7 @@ same_length : tie.Need-same-length invariant-loop decreases-loop
 same_length c = c.before.loop.invariant.1
 
 returns : tie.Need-returns invariant-loop decreases-loop
-unfolding notedSlot
+unfolding noted_slot
 returns c =
     let done = c.before.loop in
     let full : done.i ≡ length c.before.before.before.before.args.senders.now = omega arith in

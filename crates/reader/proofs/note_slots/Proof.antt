@@ -51,12 +51,12 @@ use denote.Triple.Walked.{says, Stays, stay_none, stay_none_ref, stay_none_slice
 use denote.Triple.Walked.{Goes-slice, Walks, ends_at, walked, walk_Meets}
 use denote.Exit.{yes}
 use denote.Triple.Clauses.{ensured, lasts}
-use Rattle.meaning.specs.Plan.{sendersAt}
+use Rattle.meaning.specs.Plan.{senders_at}
 use Rattle.meaning.specs.declared.Slot.{Slot}
 use Rattle.meaning.specs.contracts.Slot as S
 use Rattle.meaning.proofs.Slot.TheLaws as S'
-use Rattle.slot.specs.Place.{slotAt}
-use Rattle.reader.specs.Noted.{notedSlot}
+use Rattle.slot.specs.Place.{slot_at}
+use Rattle.reader.specs.Noted.{noted_slot}
 use Rattle.reader.specs.declared.Reader.{Reader}
 use Rattle.reader.specs.contracts.Reader as T
 use Rattle.reader.proofs.Reader.TheLaws as T'
@@ -269,15 +269,15 @@ module _ {M : Type 1} {𝓤 : Ura M} (𝓛 : Logic 𝓤) (mem : Memory → SProp
   room_of i = subst (Room u8) (sym i.stands.long) room
 
   -- where the next turn stands
-  abbrev next : (i : Passing) → i.k < many → (t : Bor (List ℕ)) → t.now ≡ sendersAt s.now i.at → (l : List ℕ)
-      → l ≡ notedSlot p.now (i.k + 1) t.now i.written → length l ≡ length i.written
-      → (d : Reader) → d.at < 2 ^ 64 → d.at ≡ (slotAt s.now i.at).next → Passing
+  abbrev next : (i : Passing) → i.k < many → (t : Bor (List ℕ)) → t.now ≡ senders_at s.now i.at → (l : List ℕ)
+      → l ≡ noted_slot p.now (i.k + 1) t.now i.written → length l ≡ length i.written
+      → (d : Reader) → d.at < 2 ^ 64 → d.at ≡ (slot_at s.now i.at).next → Passing
   next i less t e l e' same d fits is = record {
     k = i.k + 1;
     at = d.at;
     written = l;
     stands = onward p.now s.now many ys i.k i.at i.written i.stands less d.at is fits l
-        (e' ∙ ap (λ (senders : List ℕ). notedSlot p.now (i.k + 1) senders i.written) e) same;
+        (e' ∙ ap (λ (senders : List ℕ). noted_slot p.now (i.k + 1) senders i.written) e) same;
   }
 
   -- the call of `open`: what it is passed, what it asks, and what is known of its result
@@ -315,8 +315,8 @@ module _ {M : Type 1} {𝓤 : Ura M} (𝓛 : Logic 𝓤) (mem : Memory → SProp
       frame ! $ done !
 
   senders-said : (at : ℕ) (t : Bor (List ℕ)) → ent 𝓤 (ensured 𝓛 senders.ended (senders.clauses 𝓛 mem run) (κ₀, tt) (here at, tt) tt t)
-      (fact 𝓤 (t.now ≡ sendersAt s.now at))
-  senders-said at t = ex_e 𝓤 _ (λ ws. snd∗ 𝓤 (sem 𝓛 (lasts senders.ended (κ₀, tt) (here at, tt) ws)) (fact 𝓤 (t.now ≡ sendersAt s.now at)))
+      (fact 𝓤 (t.now ≡ senders_at s.now at))
+  senders-said at t = ex_e 𝓤 _ (λ ws. snd∗ 𝓤 (sem 𝓛 (lasts senders.ended (κ₀, tt) (here at, tt) ws)) (fact 𝓤 (t.now ≡ senders_at s.now at)))
 
   abbrev to-behind : ℕ → (Behind 𝓛 mem run).Ghost
   to-behind at = (((κ₀, tt), (q₀, tt), tt, (here at, tt), (T'.lowered (here at) ∷ [], tt)), tt)
@@ -325,8 +325,8 @@ module _ {M : Type 1} {𝓤 : Ura M} (𝓛 : Logic 𝓤) (mem : Memory → SProp
   goes-behind = goes-senders
 
   behind-said : (at : ℕ) (r : Reader) → ent 𝓤 (ensured 𝓛 behind.ended (behind.clauses 𝓛 mem run) (κ₀, tt) (here at, tt) tt r)
-      (fact 𝓤 ((r.plan ≡ s) × (r.at ≡ (slotAt s.now at).next)))
-  behind-said at r = ex_e 𝓤 _ (λ ws. snd∗ 𝓤 (sem 𝓛 (lasts behind.ended (κ₀, tt) (here at, tt) ws)) (fact 𝓤 ((r.plan ≡ s) × (r.at ≡ (slotAt s.now at).next))))
+      (fact 𝓤 ((r.plan ≡ s) × (r.at ≡ (slot_at s.now at).next)))
+  behind-said at r = ex_e 𝓤 _ (λ ws. snd∗ 𝓤 (sem 𝓛 (lasts behind.ended (κ₀, tt) (here at, tt) ws)) (fact 𝓤 ((r.plan ≡ s) × (r.at ≡ (slot_at s.now at).next))))
 
   -- the call of `note_slot`: the senders t, with the machine value u, and the book lent again for the lifetime ν, under the name δ at the list l
   abbrev numbered : ℕ → Slot
@@ -472,8 +472,8 @@ module _ {M : Type 1} {𝓤 : Ura M} (𝓛 : Logic 𝓤) (mem : Memory → SProp
           calls_at ! fm (Senders 𝓛 mem run) known-senders (to-senders i.at) (and_then ! (load ! (from ! (stop !)) (look ! 12 refl)) (no_more !)) (λ u.
           use1 𝓛 (later (some (λ (t : MutBor (List ℕ)). ((‵ (flft κ₀ q₀) ⊛ ‵ ftrue) ⊛ ‵ (Part.own t (u ∷ [])))
           ⊛ raw (ensured 𝓛 senders.ended (senders.clauses 𝓛 mem run) (κ₀, tt) (here i.at, tt) tt t)))) (id⊢ 𝓤 _) $ await ! tt $ pick ! (λ t.
-          split ! $ move ! (1 ∷ []) $ use1 𝓛 (raw (fact 𝓤 (t.now ≡ sendersAt s.now i.at))) (senders-said i.at t) $
-          heard ! (t.now ≡ sendersAt s.now i.at) (λ e. split ! $ move ! (1 ∷ []) $
+          split ! $ move ! (1 ∷ []) $ use1 𝓛 (raw (fact 𝓤 (t.now ≡ senders_at s.now i.at))) (senders-said i.at t) $
+          heard ! (t.now ≡ senders_at s.now i.at) (λ e. split ! $ move ! (1 ∷ []) $
           -- [what the senders own; κ₀'s token and true; what plan owns; what book owns; κ₂'s token; κ₁'s; what places owns; _14; …]
           peeks ! Part (Is Part) (shows 𝓛 Part) t (u ∷ []) (λ is.
           land ! (from ! (stop !)) (init ! 15 refl ((shr_slice_Lawful 𝓛 erased κ₀ u8).typed t _ is).0) $
@@ -499,8 +499,8 @@ module _ {M : Type 1} {𝓤 : Ura M} (𝓛 : Logic 𝓤) (mem : Memory → SProp
           (id⊢ 𝓤 _) $ await ! tt $ pick ! (λ r.
           split ! $ move ! (1 ∷ []) $
           use1 𝓛 (some (λ (zs : NoteLast). ‵ (lasts note-slot.ended (note-lfts ν) (note-args (i.k + 1) t δ i.written) zs)
-          ⊛ raw (fact 𝓤 (zs.1.1.1.0 ≡ notedSlot p.now (i.k + 1) t.now i.written)))) (id⊢ 𝓤 _) $ pick ! (λ zs.
-          split ! $ move ! (1 ∷ []) $ heard ! (zs.1.1.1.0 ≡ notedSlot p.now (i.k + 1) t.now i.written) (λ e'.
+          ⊛ raw (fact 𝓤 (zs.1.1.1.0 ≡ noted_slot p.now (i.k + 1) t.now i.written)))) (id⊢ 𝓤 _) $ pick ! (λ zs.
+          split ! $ move ! (1 ∷ []) $ heard ! (zs.1.1.1.0 ≡ noted_slot p.now (i.k + 1) t.now i.written) (λ e'.
           fsplit ! $ drop ! $ fsplit ! $ drop ! $ fsplit ! $ drop ! $ fsplit ! $ fsplit ! $ move ! (1 ∷ []) $ feq_l ! (λ same.
           -- [the last list; true; the tokens and the result; what places owns; the lender's part; what plan owns; _14; …]
           move ! (2 ∷ []) $ split ! $ move ! (1 ∷ []) $ feq_l ! (λ no_value.
@@ -517,8 +517,8 @@ module _ {M : Type 1} {𝓤 : Ura M} (𝓛 : Logic 𝓤) (mem : Memory → SProp
           calls_at_last ! fm (Behind 𝓛 mem run) Known-Behind (to-behind i.at) (and_then ! (load ! (from ! (stop !)) (look ! 8 refl)) (no_more !)) (λ u'.
           use1 𝓛 (later (some (λ (d : Reader). ((‵ (flft κ₀ q₀) ⊛ ‵ ftrue) ⊛ ‵ (B.own d (u' ∷ [])))
           ⊛ raw (ensured 𝓛 behind.ended (behind.clauses 𝓛 mem run) (κ₀, tt) (here i.at, tt) tt d)))) (id⊢ 𝓤 _) $ await ! tt $ pick ! (λ d.
-          split ! $ move ! (1 ∷ []) $ use1 𝓛 (raw (fact 𝓤 ((d.plan ≡ s) × (d.at ≡ (slotAt s.now i.at).next)))) (behind-said i.at d) $
-          heard ! ((d.plan ≡ s) × (d.at ≡ (slotAt s.now i.at).next)) (λ e''. split ! $ move ! (1 ∷ []) $
+          split ! $ move ! (1 ∷ []) $ use1 𝓛 (raw (fact 𝓤 ((d.plan ≡ s) × (d.at ≡ (slot_at s.now i.at).next)))) (behind-said i.at d) $
+          heard ! ((d.plan ≡ s) × (d.at ≡ (slot_at s.now i.at).next)) (λ e''. split ! $ move ! (1 ∷ []) $
           facts ! B (Is B) (shows 𝓛 B) d (u' ∷ []) (λ is'.
           land_last ! (from ! (stop !)) (store ! 26 refl ((LL.lawful (T.the_type αᵉ) (T'.the_laws αᵉ) 𝓛).typed d _ is').0) $
           rewrite ! 26 (λ (z : Val). ‵ (fat full_share τ₅ l₅ 0 z)) (spelled d u' is' e''.0) refl $ split ! $

@@ -28,7 +28,7 @@ use denote.Triple.Call.{calls_at}
 use denote.Triple.Spec.{triple_of}
 use denote.Triple.Walked.{says}
 use denote.Triple.Clauses.{ensured, lasts}
-use Rattle.meaning.specs.Plan.{sendersAt}
+use Rattle.meaning.specs.Plan.{senders_at}
 use Rattle.reader.specs.declared.Reader.{Reader}
 use Rattle.reader.proofs.Reader.TheLaws as T'
 use Rattle.reader.proofs.Apart.{Own, passed, apart, Begin, End, Walk, ends, meets-by}
@@ -49,7 +49,7 @@ module _ {M : Type 1} {𝓤 : Ura M} (𝓛 : Logic 𝓤) (mem : Memory → SProp
   SendersAt = triple_of 𝓛 callee.signature (callee.spec 𝓛 mem run)
 
   abbrev found : List ℕ
-  found = sendersAt d.plan.now d.at
+  found = senders_at d.plan.now d.at
 
   -- the result's type
   abbrev Part : RattleType

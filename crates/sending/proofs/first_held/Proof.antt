@@ -1,8 +1,8 @@
 -- `sending::first_held` meets its contract: the mode says which of the two lists is held.
 use mathlib.Core.Path.{sym, ap, ◌∙◌}
 use Rattle.meaning.specs.declared.Mode.{Mode}
-use Rattle.laws.specs.Few.{atMost63}
-use Rattle.sending.specs.First.{firstHeld}
+use Rattle.laws.specs.Few.{at_most63}
+use Rattle.sending.specs.First.{first_held}
 use borrow.Author.Rules.{rules}
 use Rattle.sending.proofs.first_held.Statement.{statement}
 use Rattle.sending.proofs.first_held.Tie as tie
@@ -25,7 +25,7 @@ returns c = search rules
 returns-2 : tie.Need-returns-2
 returns-2 c =
     let a = c.before.before.before.args in
-    c.readings.ensures ∙ ap (λ (m : Mode). firstHeld m (atMost63 a.p) a.packets) (sym c.before.enum-told2.given.1)
+    c.readings.ensures ∙ ap (λ (m : Mode). first_held m (at_most63 a.p) a.packets) (sym c.before.enum-told2.given.1)
 
 pub first-held-spec : {M : Type 1} → statement M
 first-held-spec = tie.close (tie.spec enum_told wide-requires enum-told-2 readings-requires returns returns-2)

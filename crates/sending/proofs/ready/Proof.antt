@@ -4,10 +4,10 @@ use mathlib.Core.Bool.{Bool, false, cond, not, ◌&&◌}
 use mathlib.Core.List.{List}
 use Prim.Native.Nat.{ℕ, ◌-◌}
 use lib.ListN.{get_or}
-use Rattle.meaning.specs.Words.{tab, places, byNode}
+use Rattle.meaning.specs.Words.{tab, places, by_node}
 use Rattle.meaning.specs.Rounds.{holds, ready, waits}
-use Rattle.laws.specs.Few.{atMost63}
-use Rattle.laws.proofs.Turns.{getD-tab, tab-same}
+use Rattle.laws.specs.Few.{at_most63}
+use Rattle.laws.proofs.Turns.{get_or-tab, tab-same}
 use Rattle.laws.proofs.Lists.{Becoming, becoming-start, becoming-next, becoming-whole}
 use borrow.Author.Rules.{rules}
 use Rattle.sending.proofs.ready.Statement.{statement}
@@ -60,13 +60,13 @@ who-waits : (p : ℕ) (parent : ℕ → ℕ) (held : List ℕ) (flags : List Boo
 unfolding ready
 who-waits p parent held flags is =
     tab-same places _ _
-    (λ k h. ap (λ (b : Bool). cond (holds held k && not b) 1 0) (ap (λ (l : List Bool). get_or l k false) is ∙ getD-tab places (waits p parent held) k false h))
+    (λ k h. ap (λ (b : Bool). cond (holds held k && not b) 1 0) (ap (λ (l : List Bool). get_or l k false) is ∙ get_or-tab places (waits p parent held) k false h))
 
 returns : tie.Need-returns invariant-loop decreases-loop
 returns c =
     let a = c.before.before.before.args in
     becoming-whole 65 _ _ _ c.before.loop.invariant c.loop-test.false
-    ∙ who-waits (atMost63 a.p) (byNode a.parents.now) a.held.now _ c.before.before.waiting.ensures
+    ∙ who-waits (at_most63 a.p) (by_node a.parents.now) a.held.now _ c.before.before.waiting.ensures
 
 pub ready-spec : {M : Type 1} → statement M
 ready-spec =

@@ -3,7 +3,7 @@ use mathlib.Core.Path.{◌≡◌, refl, ap, ◌∙◌}
 use mathlib.Core.Logic.{⊎_elim}
 use Prim.Native.Nat.{ℕ, ◌-◌, ◌≤◌}
 use native.Mathlib.Omega.{arith}
-use Rattle.meaning.specs.Words.{some, tab, places, byNode}
+use Rattle.meaning.specs.Words.{some, tab, places, by_node}
 use Rattle.meaning.specs.Rounds.{waits}
 use Rattle.sending.proofs.WaitsFor.{parent-waits, nobody-waits}
 use borrow.Author.Rules.{rules}
@@ -11,7 +11,7 @@ use Rattle.sending.proofs.waiting.Statement.{statement}
 use Rattle.sending.proofs.waiting.Tie as tie
 
 abbrev invariant-loop : tie.invariant-loop
-invariant-loop p parents held probes flags₀ k₀ flags k = (k ≤ probes) × (flags ≡ tab places (waits k (byNode parents) held))
+invariant-loop p parents held probes flags₀ k₀ flags k = (k ≤ probes) × (flags ≡ tab places (waits k (by_node parents) held))
 
 abbrev decreases-loop : tie.decreases-loop
 decreases-loop p parents held probes flags₀ k₀ flags k = probes - k
@@ -58,8 +58,8 @@ loop-again c =
     let a = c.before.before.before.before.before.args in
     let l = c.before.before.before.loop in (
       search rules,
-      ⊎_elim (λ w. w.2 ∙ parent-waits (byNode a.parents.now) a.held.now l.k l.flags l.invariant.1 _ refl w.0.taken)
-          (λ w. w.1 ∙ nobody-waits (byNode a.parents.now) a.held.now l.k l.flags l.invariant.1 w.0.left) c.if1.branch,
+      ⊎_elim (λ w. w.2 ∙ parent-waits (by_node a.parents.now) a.held.now l.k l.flags l.invariant.1 _ refl w.0.taken)
+          (λ w. w.1 ∙ nobody-waits (by_node a.parents.now) a.held.now l.k l.flags l.invariant.1 w.0.left) c.if1.branch,
     )
 
 returns : tie.Need-returns invariant-loop decreases-loop
@@ -67,7 +67,7 @@ returns c =
     let a = c.before.before.before.args in
     let l = c.before.loop in
     let all : l.k ≡ c.before.before.at-most-63.result = omega (arith, l.invariant.0, c.loop-test.false) in
-    l.invariant.1 ∙ ap (λ (n : ℕ). tab places (waits n (byNode a.parents.now) a.held.now)) (all ∙ c.before.before.at-most-63.ensures)
+    l.invariant.1 ∙ ap (λ (n : ℕ). tab places (waits n (by_node a.parents.now) a.held.now)) (all ∙ c.before.before.at-most-63.ensures)
 
 pub waiting-spec : {M : Type 1} → statement M
 waiting-spec =

@@ -5,13 +5,13 @@ use Prim.Native.Nat.{◌≤◌, ◌<◌, ◌-◌}
 use lib.ListN.{length, take, length-set}
 use Rattle.meaning.specs.Words.{tab}
 use Rattle.laws.proofs.Turns.{tab-next, tab-full}
-use Rattle.sheet.specs.Tree.{recordByte}
+use Rattle.sheet.specs.Tree.{record_byte}
 use borrow.Author.Rules.{rules}
 use Rattle.sheet.proofs.by_node.Statement.{statement}
 use Rattle.sheet.proofs.by_node.Tie as tie
 
 abbrev invariant-loop : tie.invariant-loop
-invariant-loop records p side table₀ v₀ table v = (v ≤ 65) × ((length table ≡ 65) × (take v table ≡ tab v (recordByte records p side)))
+invariant-loop records p side table₀ v₀ table v = (v ≤ 65) × ((length table ≡ 65) × (take v table ≡ tab v (record_byte records p side)))
 
 abbrev decreases-loop : tie.decreases-loop
 decreases-loop records p side table₀ v₀ table v = 65 - v

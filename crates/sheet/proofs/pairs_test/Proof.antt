@@ -1,13 +1,13 @@
 -- `sheet::pairs_test` meets its contract: the scan's invariant and its four laws.
 use Prim.Native.Nat.{◌-◌}
 use borrow.Author.Rules.{rules}
-use Rattle.meaning.specs.Answer.{pairTest}
+use Rattle.meaning.specs.Answer.{pair_test}
 use Rattle.sheet.proofs.Scan.{Scanned, scan-starts, scan-next, scan-stops, scan-ends}
 use Rattle.sheet.proofs.pairs_test.Statement.{statement}
 use Rattle.sheet.proofs.pairs_test.Tie as tie
 
 abbrev invariant-loop : tie.invariant-loop
-invariant-loop records p q found₀ k₀ found k = Scanned (pairTest records p) q k found
+invariant-loop records p q found₀ k₀ found k = Scanned (pair_test records p) q k found
 
 abbrev decreases-loop : tie.decreases-loop
 decreases-loop records p q found₀ k₀ found k = q - k

@@ -1,13 +1,13 @@
 -- `sheet::probes_test` meets its contract: the scan's invariant and its four laws.
 use Prim.Native.Nat.{◌-◌}
 use borrow.Author.Rules.{rules}
-use Rattle.meaning.specs.Answer.{probeTest}
+use Rattle.meaning.specs.Answer.{probe_test}
 use Rattle.sheet.proofs.Scan.{Scanned, scan-starts, scan-next, scan-stops, scan-ends}
 use Rattle.sheet.proofs.probes_test.Statement.{statement}
 use Rattle.sheet.proofs.probes_test.Tie as tie
 
 abbrev invariant-loop : tie.invariant-loop
-invariant-loop records p found₀ k₀ found k = Scanned (probeTest records p) p k found
+invariant-loop records p found₀ k₀ found k = Scanned (probe_test records p) p k found
 
 abbrev decreases-loop : tie.decreases-loop
 decreases-loop records p found₀ k₀ found k = p - k

@@ -8,8 +8,8 @@ use native.Mathlib.Omega.{arith}
 use borrow.Author.Rules.{rules}
 use Rattle.meaning.specs.Words.{tab, places}
 use Rattle.meaning.specs.Sheet.{parent_of}
-use Rattle.meaning.specs.Answer.{isAccepted, countsTest}
-use Rattle.sheet.proofs.SheetRead.{probesAnswer, walksAnswer, pairsAnswer, no_number, probes-read, parents-read, packets-read, pairs-read}
+use Rattle.meaning.specs.Answer.{is_accepted, counts_test}
+use Rattle.sheet.proofs.SheetRead.{probes_answer, walks_answer, pairs_answer, no_number, probes-read, parents-read, packets-read, pairs-read}
 use Rattle.sheet.proofs.SheetRead.{walks-read, levels-read, few-probes, counts-decide, probes-decide, walks-decide, pairs_decide, tree-read}
 use Rattle.sheet.proofs.read.Statement.{statement}
 use Rattle.sheet.proofs.read.Tie as tie
@@ -27,7 +27,7 @@ returns c = c.refused.ensures ∙ counts-decide _ _ c.before.before.before.count
 abbrev sheet : tie.Else1 → List ℕ
 sheet c = c.before.before.before.before.args.sheet.now
 
-counts-fine : (c : tie.Else1) → isAccepted (countsTest (sheet c)) ≡ true
+counts-fine : (c : tie.Else1) → is_accepted (counts_test (sheet c)) ≡ true
 counts-fine c = no_number _ _ c.before.before.counts-test.ensures c.if1.false
 
 number-at-requires : tie.Need-number-at-requires
@@ -39,7 +39,7 @@ probe-records-requires c κs = search rules
 probes-test-requires : tie.Need-probes-test-requires
 probes-test-requires c κs = search rules
 
-probes-answer : (c : tie.After-probes-test) → c.probes-test.result ≡ probesAnswer (sheet c.before.before.before)
+probes-answer : (c : tie.After-probes-test) → c.probes-test.result ≡ probes_answer (sheet c.before.before.before)
 probes-answer c =
     c.probes-test.ensures
     ∙ probes-read (sheet c.before.before.before) _ _ c.before.before.number_at.ensures c.before.probe-records.ensures
@@ -56,7 +56,7 @@ returns-2 c =
 abbrev counted : tie.Else2 → tie.Else1
 counted c = c.before.before.before.before.before
 
-probes-fine : (c : tie.Else2) → isAccepted (probesAnswer (sheet (counted c))) ≡ true
+probes-fine : (c : tie.Else2) → is_accepted (probes_answer (sheet (counted c))) ≡ true
 probes-fine c = no_number _ _ (probes-answer c.before.before) c.if2.false
 
 parents-requires : tie.Need-parents-requires
@@ -73,7 +73,7 @@ walks-test-requires c κs =
     let few = few-probes _ (counts-fine (counted c.before.before)) in
     omega (arith, few, c.before.before.before.before.before.before.number_at.ensures)
 
-walks-answer : (c : tie.After-walks-test) → c.walks-test.result.outcome ≡ walksAnswer (sheet (counted c.before.before.before))
+walks-answer : (c : tie.After-walks-test) → c.walks-test.result.outcome ≡ walks_answer (sheet (counted c.before.before.before))
 walks-answer c =
     let behind = counted c.before.before.before in
     let p = c.before.before.before.before.before.before.before.number_at.ensures in
@@ -92,7 +92,7 @@ returns-3 c =
 abbrev probed : tie.Else3 → tie.Else2
 probed c = c.before.before.before.before.before.before
 
-walks-fine : (c : tie.Else3) → isAccepted (walksAnswer (sheet (counted (probed c)))) ≡ true
+walks-fine : (c : tie.Else3) → is_accepted (walks_answer (sheet (counted (probed c)))) ≡ true
 walks-fine c = no_number _ _ (walks-answer c.before.before.before) c.if3.false
 
 pair-records-requires : tie.Need-pair-records-requires
@@ -104,7 +104,7 @@ pair-count-requires c κs = search rules
 pairs-test-requires : tie.Need-pairs-test-requires
 pairs-test-requires c κs = search rules
 
-pairs-answer : (c : tie.After-pairs-test) → c.pairs-test.result ≡ pairsAnswer (sheet (counted (probed c.before.before.before)))
+pairs-answer : (c : tie.After-pairs-test) → c.pairs-test.result ≡ pairs_answer (sheet (counted (probed c.before.before.before)))
 pairs-answer c =
     let behind = probed c.before.before.before in
     let p = behind.before.before.before.before.number_at.ensures in

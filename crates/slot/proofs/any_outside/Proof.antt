@@ -4,7 +4,7 @@ use Prim.Native.Nat.{◌+◌, ◌-◌}
 use borrow.Author.Tests.{lt-ltb, le-ltb}
 use lib.ListN.{get_or}
 use Rattle.meaning.specs.Rounds.{holds}
-use Rattle.laws.specs.Few.{atMost63}
+use Rattle.laws.specs.Few.{at_most63}
 use Rattle.slot.proofs.Looking.{Looking, looking-starts, looking-on, looking-found, looking-ends}
 use native.Mathlib.Omega.{arith}
 use borrow.Author.Rules.{rules}
@@ -12,7 +12,7 @@ use Rattle.slot.proofs.any_outside.Statement.{statement}
 use Rattle.slot.proofs.any_outside.Tie as tie
 
 abbrev invariant-loop : tie.invariant-loop
-invariant-loop p held probes k₀ k = Looking (λ j. holds held (j + 2)) (atMost63 p) k
+invariant-loop p held probes k₀ k = Looking (λ j. holds held (j + 2)) (at_most63 p) k
 
 abbrev decreases-loop : tie.decreases-loop
 decreases-loop p held probes k₀ k = probes - k

@@ -1,7 +1,7 @@
 -- `slot::hop` meets its contract: where a test fails nothing moves, and once all hold the code is the meaning's hop.
 use Prim.Native.Nat.{◌-◌}
 use lib.ListN.{get_or}
-use Rattle.slot.proofs.Within.{set-less, no_node, no-parent, no-packet, no_room, hops}
+use Rattle.slot.proofs.Within.{set-less, no_node, no-parent, no_packet, no_room, hops}
 use native.Mathlib.Omega.{arith}
 use borrow.Author.Rules.{rules}
 use Rattle.slot.proofs.hop.Statement.{statement}
@@ -29,7 +29,7 @@ element-copy-out-if3 : tie.Need-element-copy-out-if3
 element-copy-out-if3 c = search rules
 
 returns-3 : tie.Need-returns-3
-returns-3 c = no-packet _ _ _ c.before.before.before.before.if1.false c.before.before.if2.false (omega (arith, c.if3.true))
+returns-3 c = no_packet _ _ _ c.before.before.before.before.if1.false c.before.before.if2.false (omega (arith, c.if3.true))
 
 mul-if4 : tie.Need-overflow-mul-if4
 mul-if4 c = search rules

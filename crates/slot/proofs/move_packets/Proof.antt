@@ -2,7 +2,7 @@
 use mathlib.Core.Path.{◌≡◌, refl, sym, ap, ◌∙◌}
 use Prim.Native.Nat.{ℕ, ◌+◌, ◌-◌}
 use lib.ListN.{length, get_or, drop}
-use Rattle.slot.specs.Move.{movedWithin}
+use Rattle.slot.specs.Move.{moved_within}
 use Rattle.slot.proofs.Within.{next-moves, none_moves, lone-moves}
 use borrow.Author.Rules.{rules}
 use Rattle.slot.proofs.move_packets.Statement.{statement}
@@ -10,7 +10,7 @@ use Rattle.slot.proofs.move_packets.Tie as tie
 
 abbrev invariant-loop : tie.invariant-loop
 invariant-loop parents slot held₀ i₀ held i =
-    movedWithin (λ u. get_or parents u 0) (drop i slot) held ≡ movedWithin (λ u. get_or parents u 0) slot held₀
+    moved_within (λ u. get_or parents u 0) (drop i slot) held ≡ moved_within (λ u. get_or parents u 0) slot held₀
 
 abbrev decreases-loop : tie.decreases-loop
 decreases-loop parents slot held₀ i₀ held i = length slot - i
@@ -47,7 +47,7 @@ loop-again c =
     let a = c.before.before.before.before.before.before.before.args in
     let l = c.before.before.before.before.loop in
     let parent : ℕ → ℕ = λ u. get_or a.parents.now u 0 in
-    ap (movedWithin parent (drop (l.i + 1) a.slot.now)) c.hop2.ensures
+    ap (moved_within parent (drop (l.i + 1) a.slot.now)) c.hop2.ensures
     ∙ sym (next-moves parent a.slot.now l.held l.i c.before.before.before.loop-test.true)
     ∙ l.invariant
 

@@ -4,7 +4,7 @@ use mathlib.Core.Bool.{not}
 use Prim.Native.Nat.{◌-◌}
 use borrow.Author.Tests.{lt-ltb, le-ltb}
 use lib.ListN.{length, get_or}
-use Rattle.meaning.specs.Judge.{noPacket}
+use Rattle.meaning.specs.Judge.{no_packet}
 use Rattle.slot.proofs.Looking.{Looking, looking-starts, looking-on, looking-stops, looking-past}
 use native.Mathlib.Omega.{arith}
 use borrow.Author.Rules.{rules}
@@ -12,7 +12,7 @@ use Rattle.slot.proofs.no_packet.Statement.{statement}
 use Rattle.slot.proofs.no_packet.Tie as tie
 
 abbrev invariant-loop : tie.invariant-loop
-invariant-loop held slot i₀ i = Looking (noPacket held slot) (length slot) i
+invariant-loop held slot i₀ i = Looking (no_packet held slot) (length slot) i
 
 abbrev decreases-loop : tie.decreases-loop
 decreases-loop held slot i₀ i = length slot - i

@@ -3,15 +3,15 @@ use mathlib.Core.Path.{◌≡◌, sym, ap, ◌∙◌}
 use mathlib.Core.Bool.{not}
 use Prim.Native.Nat.{◌-◌}
 use lib.ListN.{length}
-use Rattle.meaning.specs.Judge.{noProbe}
-use Rattle.laws.specs.Few.{atMost63}
+use Rattle.meaning.specs.Judge.{no_probe}
+use Rattle.laws.specs.Few.{at_most63}
 use Rattle.slot.proofs.Looking.{Looking, looking-starts, looking-on, looking-stops, looking-past}
 use borrow.Author.Rules.{rules}
 use Rattle.slot.proofs.no_probe.Statement.{statement}
 use Rattle.slot.proofs.no_probe.Tie as tie
 
 abbrev invariant-loop : tie.invariant-loop
-invariant-loop p slot probes i₀ i = (probes ≡ atMost63 p) × Looking (noProbe probes slot) (length slot) i
+invariant-loop p slot probes i₀ i = (probes ≡ at_most63 p) × Looking (no_probe probes slot) (length slot) i
 
 abbrev decreases-loop : tie.decreases-loop
 decreases-loop p slot probes i₀ i = length slot - i

@@ -3,14 +3,14 @@ use mathlib.Core.Path.{ap}
 use Prim.Native.Nat.{ℕ, ◌+◌, ◌-◌}
 use borrow.Author.Tests.{le-leb, lt-leb}
 use lib.ListN.{length}
-use Rattle.meaning.specs.Judge.{notRising}
+use Rattle.meaning.specs.Judge.{not_rising}
 use Rattle.slot.proofs.Looking.{Looking, looking-starts, looking-on, looking-stops, looking-past}
 use borrow.Author.Rules.{rules}
 use Rattle.slot.proofs.not_rising.Statement.{statement}
 use Rattle.slot.proofs.not_rising.Tie as tie
 
 abbrev invariant-loop : tie.invariant-loop
-invariant-loop slot i₀ i = Looking (notRising slot) (length slot - 1) i
+invariant-loop slot i₀ i = Looking (not_rising slot) (length slot - 1) i
 
 abbrev decreases-loop : tie.decreases-loop
 decreases-loop slot i₀ i = length slot - i

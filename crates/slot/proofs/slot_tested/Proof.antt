@@ -28,7 +28,7 @@ blamed-requires c κs = search rules
 
 returns-2 : tie.Need-returns-2
 returns-2 c =
-    c.blamed.ensures ∙ gives-12 _ _ _ _ _ _ c.before.before.before.no-probe.ensures c.before.before.if2.true
+    c.blamed.ensures ∙ gives-12 _ _ _ _ _ _ c.before.before.before.no_probe.ensures c.before.before.if2.true
 
 not-rising-requires : tie.Need-not-rising-requires
 not-rising-requires c κs = search rules
@@ -44,13 +44,13 @@ returns-3 c =
     let rising = c.before.before.before in
     let probes = rising.before.before in
     c.blamed2.ensures
-    ∙ gives-13 _ _ _ _ _ _ probes.no-probe.ensures rising.before.if2.false _ rising.not-rising.ensures c.before.before.if3.true
+    ∙ gives-13 _ _ _ _ _ _ probes.no_probe.ensures rising.before.if2.false _ rising.not_rising.ensures c.before.before.if3.true
 
 no-packet-requires : tie.Need-no-packet-requires
 no-packet-requires c κs =
     let probes = c.before.before.before in
     let start = probes.before.before.before in
-    nodes start.args.p start.args.slot.now _ probes.no-probe.ensures c.before.before.if2.false
+    nodes start.args.p start.args.slot.now _ probes.no_probe.ensures c.before.before.if2.false
 
 shared-slice-read-blamed-3 : tie.Need-shared-slice-read-blamed-3
 shared-slice-read-blamed-3 c = search rules
@@ -64,14 +64,14 @@ returns-4 c =
     let rising = packets.before.before in
     let probes = rising.before.before in
     c.blamed3.ensures
-    ∙ gives-14 _ _ _ _ _ _ probes.no-probe.ensures rising.before.if2.false _ rising.not-rising.ensures packets.before.if3.false
-    _ packets.no-packet.ensures c.before.before.if4.true
+    ∙ gives-14 _ _ _ _ _ _ probes.no_probe.ensures rising.before.if2.false _ rising.not_rising.ensures packets.before.if3.false
+    _ packets.no_packet.ensures c.before.before.if4.true
 
 two-conflict-requires : tie.Need-two-conflict-requires
 two-conflict-requires c κs =
     let probes = c.before.before.before.before.before in
     let start = probes.before.before.before in
-    nodes start.args.p start.args.slot.now _ probes.no-probe.ensures c.before.before.before.before.if2.false
+    nodes start.args.p start.args.slot.now _ probes.no_probe.ensures c.before.before.before.before.if2.false
 
 shared-slice-read-blamed-4 : tie.Need-shared-slice-read-blamed-4
 shared-slice-read-blamed-4 c = search rules
@@ -90,8 +90,8 @@ returns-5 c =
     let rising = packets.before.before in
     let probes = rising.before.before in
     c.blamed4.ensures
-    ∙ gives-15 _ _ _ _ _ _ probes.no-probe.ensures rising.before.if2.false _ rising.not-rising.ensures packets.before.if3.false
-    _ packets.no-packet.ensures conflicts.before.if4.false _ conflicts.two-conflict.ensures c.before.before.before.if5.true
+    ∙ gives-15 _ _ _ _ _ _ probes.no_probe.ensures rising.before.if2.false _ rising.not_rising.ensures packets.before.if3.false
+    _ packets.no_packet.ensures conflicts.before.if4.false _ conflicts.two-conflict.ensures c.before.before.before.if5.true
 
 returns-6 : tie.Need-returns-6
 returns-6 c =
@@ -99,8 +99,8 @@ returns-6 c =
     let packets = conflicts.before.before in
     let rising = packets.before.before in
     let probes = rising.before.before in
-    gives_none _ _ _ _ _ _ probes.no-probe.ensures rising.before.if2.false _ rising.not-rising.ensures packets.before.if3.false
-    _ packets.no-packet.ensures conflicts.before.if4.false _ conflicts.two-conflict.ensures c.if5.false
+    gives_none _ _ _ _ _ _ probes.no_probe.ensures rising.before.if2.false _ rising.not_rising.ensures packets.before.if3.false
+    _ packets.no_packet.ensures conflicts.before.if4.false _ conflicts.two-conflict.ensures c.if5.false
 
 pub slot-tested-spec : {M : Type 1} → statement M
 slot-tested-spec =

@@ -7,7 +7,7 @@ use borrow.Author.Tests.{lt-ltb}
 use lib.ListN.{length}
 use Rattle.meaning.specs.Words.{some}
 use Rattle.meaning.specs.Conflict.{entry}
-use Rattle.meaning.specs.Judge.{conflictBehind}
+use Rattle.meaning.specs.Judge.{conflict_behind}
 use Rattle.slot.proofs.Looking.{Looking, looking-starts, looking-on, looking-ends, looking-above}
 use Rattle.slot.proofs.Pairs.{two-stop, two_none}
 use native.Mathlib.Omega.{arith}
@@ -17,14 +17,14 @@ use Rattle.slot.proofs.two_conflict.Tie as tie
 
 abbrev invariant-loop : tie.invariant-loop
 invariant-loop table slot first₀ second₀ i x j₀ first second j =
-    (first ≡ length slot) × (second ≡ length slot) × (i < j) × Looking (conflictBehind (entry table) slot i) (length slot) j
+    (first ≡ length slot) × (second ≡ length slot) × (i < j) × Looking (conflict_behind (entry table) slot i) (length slot) j
 
 abbrev decreases-loop : tie.decreases-loop
 decreases-loop table slot first₀ second₀ i x j₀ first second j = length slot - j
 
 abbrev invariant-pairs : tie.invariant-pairs
 invariant-pairs table slot first₀ second₀ i₀ first second i =
-    (first ≡ length slot) × (second ≡ length slot) × Looking (λ k. some (length slot) (conflictBehind (entry table) slot k)) (length slot) i
+    (first ≡ length slot) × (second ≡ length slot) × Looking (λ k. some (length slot) (conflict_behind (entry table) slot k)) (length slot) i
 
 abbrev decreases-pairs : tie.decreases-pairs
 decreases-pairs table slot first₀ second₀ i₀ first second i = length slot - i

@@ -3,7 +3,7 @@ use mathlib.Core.Path.{◌≡◌, refl, ◌∙◌, ap}
 use mathlib.Core.Logic.{⊎_elim}
 use Prim.Native.Nat.{ℕ, ◌≤◌, ◌-◌}
 use Rattle.meaning.specs.Words.{sum, count}
-use Rattle.tabled.specs.Tabled.{joins, degreeIn}
+use Rattle.tabled.specs.Tabled.{joins, degree_in}
 use Rattle.tabled.proofs.Counting.{one_more, none_more}
 use native.Mathlib.Omega.{arith}
 use borrow.Author.Rules.{rules}
@@ -45,7 +45,7 @@ loop-again c =
     c.if1.branch
 
 returns : tie.Need-returns invariant-loop decreases-loop
-unfolding degreeIn
+unfolding degree_in
 returns c =
     let done = c.before.loop in
     let all : done.k ≡ 63 = omega arith in

@@ -5,7 +5,7 @@ use lib.ListN.{length}
 use Rattle.lines.specs.Fits.{Fits}
 use Rattle.graph.specs.Drawing.{texts}
 use Rattle.graph.proofs.TextsPut.{texts-start, texts-next, texts-all}
-use Rattle.tabled.specs.Tabled.{joinedText}
+use Rattle.tabled.specs.Tabled.{joined_text}
 use native.Mathlib.Omega.{arith}
 use borrow.Author.Rules.{rules}
 use Rattle.tabled.proofs.put_all_joined.Statement.{statement}
@@ -13,7 +13,7 @@ use Rattle.tabled.proofs.put_all_joined.Tie as tie
 
 abbrev invariant-loop : tie.invariant-loop
 invariant-loop row out₀ at end₀ k₀ out end k =
-    (k ≤ 63) × (length out ≡ length out₀) × Fits out₀ at (texts k (joinedText row)) out end
+    (k ≤ 63) × (length out ≡ length out₀) × Fits out₀ at (texts k (joined_text row)) out end
 
 abbrev decreases-loop : tie.decreases-loop
 decreases-loop row out₀ at end₀ k₀ out end k = 63 - k
@@ -47,7 +47,7 @@ loop-again c =
     let put = c.before.before in
     let turn = put.before.before.before.before.loop in
     let start = put.before.before.before.before.before.before.args in
-    (omega arith, search rules, texts-next turn.k (joinedText start.row.now) turn.invariant.2 put.put-joined.ensures)
+    (omega arith, search rules, texts-next turn.k (joined_text start.row.now) turn.invariant.2 put.put-joined.ensures)
 
 same_length : tie.Need-same-length invariant-loop decreases-loop
 same_length c = c.before.loop.invariant.1

@@ -5,7 +5,7 @@ use lib.ListN.{length}
 use Rattle.lines.specs.Fits.{Fits}
 use Rattle.graph.specs.Drawing.{texts}
 use Rattle.graph.proofs.TextsPut.{texts-start, texts-next, texts-all}
-use Rattle.tabled.specs.Tabled.{vertexText}
+use Rattle.tabled.specs.Tabled.{vertex_text}
 use native.Mathlib.Omega.{arith}
 use borrow.Author.Rules.{rules}
 use Rattle.tabled.proofs.put_all_shown.Statement.{statement}
@@ -13,7 +13,7 @@ use Rattle.tabled.proofs.put_all_shown.Tie as tie
 
 abbrev invariant-loop : tie.invariant-loop
 invariant-loop vertices table out₀ at end₀ k₀ out end k =
-    (k ≤ 63) × (length out ≡ length out₀) × Fits out₀ at (texts k (vertexText vertices table)) out end
+    (k ≤ 63) × (length out ≡ length out₀) × Fits out₀ at (texts k (vertex_text vertices table)) out end
 
 abbrev decreases-loop : tie.decreases-loop
 decreases-loop vertices table out₀ at end₀ k₀ out end k = 63 - k
@@ -50,7 +50,7 @@ loop-again c =
     let put = c.before.before in
     let turn = put.before.before.before.before.loop in
     let start = put.before.before.before.before.before.before.args in
-    (omega arith, search rules, texts-next turn.k (vertexText start.vertices start.table.now) turn.invariant.2 put.put-shown.ensures)
+    (omega arith, search rules, texts-next turn.k (vertex_text start.vertices start.table.now) turn.invariant.2 put.put-shown.ensures)
 
 same_length : tie.Need-same-length invariant-loop decreases-loop
 same_length c = c.before.loop.invariant.1

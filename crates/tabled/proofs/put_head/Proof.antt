@@ -2,7 +2,7 @@
 use borrow.Author.Rules.{rules}
 use Rattle.meaning.specs.Lister.{text}
 use Rattle.lines.proofs.Fitting.{put_whole, put-behind}
-use Rattle.tabled.specs.Tabled.{headLine}
+use Rattle.tabled.specs.Tabled.{head_line}
 use Rattle.tabled.proofs.put_head.Statement.{statement}
 use Rattle.tabled.proofs.put_head.Tie as tie
 
@@ -28,7 +28,7 @@ same_length : tie.Need-same-length
 same_length c = search rules
 
 returns : tie.Need-returns
-unfolding text headLine
+unfolding text head_line
 returns c =
     let last = c.before.before in
     let edges = last.before.before.before.before.before in

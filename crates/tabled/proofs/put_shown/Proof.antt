@@ -1,14 +1,14 @@
 -- `tabled::put_shown` meets its contract: the line is put, or nothing is.
 use borrow.Author.Rules.{rules}
 use Rattle.lines.proofs.Fitting.{put_if, put-if-not}
-use Rattle.tabled.specs.Tabled.{vertexLine}
+use Rattle.tabled.specs.Tabled.{vertex_line}
 use Rattle.tabled.proofs.put_shown.Statement.{statement}
 use Rattle.tabled.proofs.put_shown.Tie as tie
 
 returns : tie.Need-returns
 returns c =
     let a = c.before.before.args in
-    put-if-not a.out.now a.at (vertexLine a.v a.row.now) a.is c.if1.true
+    put-if-not a.out.now a.at (vertex_line a.v a.row.now) a.is c.if1.true
 
 put-vertex-requires : tie.Need-put-vertex-requires
 put-vertex-requires c κs = search rules

@@ -2,7 +2,7 @@
 use borrow.Author.Rules.{rules}
 use mathlib.Core.Path.{ap}
 use Rattle.lines.proofs.Fitting.{put-behind, put_same}
-use Rattle.tabled.specs.Tabled.{headLine, shownTable}
+use Rattle.tabled.specs.Tabled.{head_line, shown_table}
 use Rattle.tabled.proofs.put_table.Statement.{statement}
 use Rattle.tabled.proofs.put_table.Tie as tie
 
@@ -19,12 +19,12 @@ same_length : tie.Need-same-length
 same_length c = search rules
 
 returns : tie.Need-returns
-unfolding shownTable
+unfolding shown_table
 returns c =
     let rows = c.before.before in
     let head = rows.before.before.before.before in
     let count = head.before.before in
-    put-behind (put_same (ap (headLine count.before.before.args.vertices) count.edges.ensures) head.put-head.ensures)
+    put-behind (put_same (ap (head_line count.before.before.args.vertices) count.edges.ensures) head.put-head.ensures)
     rows.put-all-shown.ensures
 
 pub put-table-spec : {M : Type 1} → statement M

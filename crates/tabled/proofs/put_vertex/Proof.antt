@@ -3,7 +3,7 @@ use borrow.Author.Rules.{rules}
 use mathlib.Core.Path.{ap}
 use Rattle.meaning.specs.Lister.{text, said}
 use Rattle.lines.proofs.Fitting.{put_whole, put-behind, put_same}
-use Rattle.tabled.specs.Tabled.{vertexLine}
+use Rattle.tabled.specs.Tabled.{vertex_line}
 use Rattle.tabled.proofs.put_vertex.Statement.{statement}
 use Rattle.tabled.proofs.put_vertex.Tie as tie
 
@@ -41,7 +41,7 @@ same_length : tie.Need-same-length
 same_length c = search rules
 
 returns : tie.Need-returns
-unfolding text vertexLine
+unfolding text vertex_line
 returns c =
     let last = c.before.before in
     let joined = last.before.before.before.before.before in

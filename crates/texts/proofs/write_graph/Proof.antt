@@ -3,7 +3,7 @@ use mathlib.Core.Logic.{inr}
 use mathlib.Core.Path.{refl, subst}
 use borrow.Author.Rules.{rules}
 use Rattle.graph.specs.declared.Drawn.{Drawn}
-use Rattle.files.specs.Status.{statusOf, OrFailed}
+use Rattle.files.specs.Status.{status_of, OrFailed}
 use Rattle.texts.proofs.write_graph.Statement.{statement}
 use Rattle.texts.proofs.write_graph.Tie as tie
 
@@ -49,7 +49,7 @@ say-answer-requires c κs = search rules
 returns-2 : tie.Need-returns-2
 returns-2 c =
     let made = c.before.before.before.before.before.before.before.before.before in
-    subst (λ (drawn : Drawn). OrFailed (statusOf drawn.outcome) c.say-answer.result) made.graph-made.ensures.1.0 c.say-answer.ensures
+    subst (λ (drawn : Drawn). OrFailed (status_of drawn.outcome) c.say-answer.result) made.graph-made.ensures.1.0 c.say-answer.ensures
 
 pub write-graph-spec : {M : Type 1} → statement M
 write-graph-spec =

@@ -6,14 +6,14 @@ use Rattle.meaning.specs.Lister.{text}
 use Rattle.lines.specs.Fits.{Fits}
 use Rattle.lines.proofs.Putting.{put-long}
 use Rattle.lines.proofs.Fitting.{put_whole}
-use Rattle.waking.proofs.WakeWords.{slot_of, firstSlots, slots-put-start, slots-put-none, slots-put-next, slots-put-all}
+use Rattle.waking.proofs.WakeWords.{slot_of, first_slots, slots-put-start, slots-put-none, slots-put-next, slots-put-all}
 use native.Mathlib.Omega.{arith}
 use borrow.Author.Rules.{rules}
 use Rattle.waking.proofs.put_slots.Statement.{statement}
 use Rattle.waking.proofs.put_slots.Tie as tie
 
 abbrev invariant-loop : tie.invariant-loop
-invariant-loop entry at out₀ start many end₀ i₀ t10 out end i = (i ≤ many) × (length out ≡ length out₀) × Fits out₀ start (firstSlots (slot_of entry at) i) out end
+invariant-loop entry at out₀ start many end₀ i₀ t10 out end i = (i ≤ many) × (length out ≡ length out₀) × Fits out₀ start (first_slots (slot_of entry at) i) out end
 
 abbrev decreases-loop : tie.decreases-loop
 decreases-loop entry at out₀ start many end₀ i₀ t10 out end i = many - i

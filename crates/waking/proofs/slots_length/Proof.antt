@@ -2,14 +2,14 @@
 use mathlib.Core.Path.{◌≡◌, sym, ap}
 use Prim.Native.Nat.{◌-◌, ◌≤◌}
 use lib.ListN.{length}
-use Rattle.waking.proofs.WakeWords.{slot_of, firstSlots, none_said, slots-few, count_none, count_next, count-all}
+use Rattle.waking.proofs.WakeWords.{slot_of, first_slots, none_said, slots-few, count_none, count_next, count-all}
 use native.Mathlib.Omega.{arith}
 use borrow.Author.Rules.{rules}
 use Rattle.waking.proofs.slots_length.Statement.{statement}
 use Rattle.waking.proofs.slots_length.Tie as tie
 
 abbrev invariant-loop : tie.invariant-loop
-invariant-loop entry at many all₀ i₀ all i = (i ≤ many) × (all ≡ length (firstSlots (slot_of entry at) i))
+invariant-loop entry at many all₀ i₀ all i = (i ≤ many) × (all ≡ length (first_slots (slot_of entry at) i))
 
 abbrev decreases-loop : tie.decreases-loop
 decreases-loop entry at many all₀ i₀ all i = many - i

@@ -3,9 +3,9 @@ use mathlib.Core.Path.{subst}
 use mathlib.Core.List.{List}
 use Prim.Native.Nat.{ℕ, ◌+◌, ◌≤◌}
 use lib.ListN.{length}
-use Rattle.meaning.specs.Sheet.{twoAt}
+use Rattle.meaning.specs.Sheet.{two_at}
 use Rattle.meaning.specs.Lister.{text}
-use Rattle.meaning.specs.Book.{listAt, slotsText, wakeLine}
+use Rattle.meaning.specs.Book.{list_at, slots_text, wake_line}
 use Rattle.lines.proofs.Lined.{Answered, answered-short}
 use Rattle.lines.proofs.Fitting.{put_whole, put-behind}
 use Rattle.waking.proofs.WakeWords.{slot_of, slots-long, wake-short, wake-room, wake-answered}
@@ -15,14 +15,14 @@ use Rattle.waking.proofs.wake_line.Statement.{statement}
 use Rattle.waking.proofs.wake_line.Tie as tie
 
 -- the slots of any list of the entry are short enough
-slots-most : (c : tie.After-shared-slice-known) (at : ℕ) → length (slotsText (listAt c.before.args.entry.now at)) ≤ 393218
+slots-most : (c : tie.After-shared-slice-known) (at : ℕ) → length (slots_text (list_at c.before.args.entry.now at)) ≤ 393218
 slots-most c at =
     let entry = c.before.args.entry.now in
-    omega (arith, slots-long (slot_of entry at) (twoAt entry at), c.shared-slice-known.given at, c.shared-slice-known.given (at + 1))
+    omega (arith, slots-long (slot_of entry at) (two_at entry at), c.shared-slice-known.given at, c.shared-slice-known.given (at + 1))
 
 -- the line, if the second list begins at a place
 abbrev line : tie.Start → ℕ → List ℕ
-line s at = wakeLine s.args.probe.0 (listAt s.args.entry.now 0) (listAt s.args.entry.now at)
+line s at = wake_line s.args.probe.0 (list_at s.args.entry.now 0) (list_at s.args.entry.now at)
 
 -- behind the test there is room
 room : (c : tie.Else1)

@@ -2,7 +2,7 @@
 use borrow.Author.Rules.{rules}
 use Rattle.meaning.specs.Lister.{text}
 use Rattle.lines.proofs.Fitting.{put_whole, put-behind}
-use Rattle.wording.specs.Worded.{blamedLine}
+use Rattle.wording.specs.Worded.{blamed_line}
 use Rattle.wording.proofs.put_blamed.Statement.{statement}
 use Rattle.wording.proofs.put_blamed.Tie as tie
 
@@ -25,7 +25,7 @@ same_length : tie.Need-same-length
 same_length c = search rules
 
 returns : tie.Need-returns
-unfolding text blamedLine
+unfolding text blamed_line
 returns c =
     let newline = c.before.before in
     let words = newline.before.before.before.before.before in

@@ -3,7 +3,7 @@ use borrow.Author.Rules.{rules}
 use mathlib.Core.Path.{sym, ap}
 use Rattle.meaning.specs.Lister.{text}
 use Rattle.lines.proofs.Fitting.{put_whole, put_same}
-use Rattle.wording.specs.Worded.{choiceLine}
+use Rattle.wording.specs.Worded.{choice_line}
 use Rattle.wording.proofs.put_choice.Statement.{statement}
 use Rattle.wording.proofs.put_choice.Tie as tie
 
@@ -40,7 +40,7 @@ same_length c = search rules
 returns : tie.Need-returns
 unfolding text
 returns c =
-    put_same (ap choiceLine (sym c.before.before.before.before.before.enum_told.given.1)) (put_whole c.before.before.put-words.ensures)
+    put_same (ap choice_line (sym c.before.before.before.before.before.enum_told.given.1)) (put_whole c.before.before.put-words.ensures)
 
 same-length-2 : tie.Need-same-length-2
 same-length-2 c = search rules
@@ -48,7 +48,7 @@ same-length-2 c = search rules
 returns-2 : tie.Need-returns-2
 unfolding text
 returns-2 c =
-    put_same (ap choiceLine (sym c.before.before.before.before.before.enum-told2.given.1)) (put_whole c.before.before.put-words2.ensures)
+    put_same (ap choice_line (sym c.before.before.before.before.before.enum-told2.given.1)) (put_whole c.before.before.put-words2.ensures)
 
 same-length-3 : tie.Need-same-length-3
 same-length-3 c = search rules
@@ -56,7 +56,7 @@ same-length-3 c = search rules
 returns-3 : tie.Need-returns-3
 unfolding text
 returns-3 c =
-    put_same (ap choiceLine (sym c.before.before.before.before.before.enum-told3.given.1)) (put_whole c.before.before.put-words3.ensures)
+    put_same (ap choice_line (sym c.before.before.before.before.before.enum-told3.given.1)) (put_whole c.before.before.put-words3.ensures)
 
 pub put-choice-spec : {M : Type 1} → statement M
 put-choice-spec =

@@ -2,7 +2,7 @@
 use borrow.Author.Rules.{rules}
 use Rattle.meaning.specs.Lister.{text}
 use Rattle.lines.proofs.Fitting.{put_whole, put-behind}
-use Rattle.wording.specs.Worded.{choiceText}
+use Rattle.wording.specs.Worded.{choice_text}
 use Rattle.wording.proofs.put_chosen.Statement.{statement}
 use Rattle.wording.proofs.put_chosen.Tie as tie
 
@@ -31,7 +31,7 @@ same_length : tie.Need-same-length
 same_length c = search rules
 
 returns : tie.Need-returns
-unfolding text choiceText
+unfolding text choice_text
 returns c =
     let second = c.before.before in
     let between = second.before.before.before.before in

@@ -2,7 +2,7 @@
 use borrow.Author.Rules.{rules}
 use Rattle.meaning.specs.Lister.{text}
 use Rattle.lines.proofs.Fitting.{put_whole, put-behind}
-use Rattle.wording.specs.Worded.{misreadLine}
+use Rattle.wording.specs.Worded.{misread_line}
 use Rattle.wording.proofs.put_misread.Statement.{statement}
 use Rattle.wording.proofs.put_misread.Tie as tie
 
@@ -40,7 +40,7 @@ same_length : tie.Need-same-length
 same_length c = search rules
 
 returns : tie.Need-returns
-unfolding text misreadLine
+unfolding text misread_line
 returns c =
     let newline = c.before.before in
     let words = newline.before.before.before.before.before in

@@ -2,7 +2,7 @@
 use borrow.Author.Rules.{rules}
 use Rattle.meaning.specs.Lister.{text}
 use Rattle.lines.proofs.Fitting.{put_whole, put-behind}
-use Rattle.wording.specs.Worded.{refusedLine}
+use Rattle.wording.specs.Worded.{refused_line}
 use Rattle.wording.proofs.put_refused.Statement.{statement}
 use Rattle.wording.proofs.put_refused.Tie as tie
 
@@ -22,7 +22,7 @@ same_length : tie.Need-same-length
 same_length c = search rules
 
 returns : tie.Need-returns
-unfolding text refusedLine
+unfolding text refused_line
 returns c =
     let newline = c.before.before in
     let words = newline.before.before.before.before.before in
