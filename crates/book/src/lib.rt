@@ -1,4 +1,6 @@
 // The wake book: from a sheet and a plan that the judge passes, in which slots each probe sends and in which it hears a child.
+#![tactic(auto)]
+
 ghost use Rattle.std.specs.Prelude.{◌≡◌, ℕ, ◌+◌, ◌-◌, ◌*◌, ◌≤◌, ◌<◌, length, get_or};
 ghost use Rattle.meaning.specs.Words.{by_node, tab, places};
 ghost use Rattle.meaning.specs.Plan.{front};
@@ -8,7 +10,7 @@ ghost use Rattle.book.specs.Layout.{sends_at, sends_of, hears_of, begun, all_beg
 use meaning::{Booked, Names, Outcome, Probe};
 
 // Where the lists stand by node, and how many bytes the book has.
-#[derive(Drop)]
+#[derive(Clone, Copy)]
 struct Layout {
     sends: [usize; 65],
     hears: [usize; 65],

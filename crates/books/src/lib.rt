@@ -1,4 +1,6 @@
 // Wake books by the program's arguments: a plan's book written to a file, or said in words, a line for each probe.
+#![tactic(auto)]
+
 ghost use Rattle.std.specs.Prelude.{◌≡◌, length, replicate};
 ghost use Rattle.io.specs.Counts.{IsPrefixLen};
 ghost use Rattle.meaning.specs.Book.{any_book, book_made};

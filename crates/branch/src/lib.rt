@@ -1,4 +1,6 @@
 // The packets of a yard, of its heaviest branch, of its slowest one with the lag, and the fewest slots of any plan. Tables are by node; outside them every number is 0.
+#![tactic(auto)]
+
 ghost use Rattle.std.specs.Prelude.{◌≡◌, cond, ◌-◌, ◌*◌, ◌≤◌, max, length, get_or};
 ghost use Rattle.meaning.specs.Words.{places, sum_probes, most_probes, by_node};
 ghost use Rattle.meaning.specs.Yard.{reaches, lag_on, branch_packets, branch_lag, heaviest_of, slowest_of, least_slots_of};
@@ -7,7 +9,7 @@ ghost use Rattle.branch.specs.Weight.{weight_of};
 use meaning::Probe;
 
 // What of a branch is weighed: its packets, these and its lag, or what its top hears and sends.
-#[derive(Drop)]
+#[derive(Clone, Copy)]
 enum Weighed {
     Packets,
     WithLag,

@@ -1,4 +1,6 @@
 // The chooser: a sheet and two lent plans in, the shorter passed plan itself out.
+#![tactic(auto)]
+
 ghost use Rattle.std.specs.Prelude.{◌≡◌};
 ghost use Rattle.meaning.specs.Judge.{choose_by, choice, handed_back};
 ghost use Rattle.chooser.specs.Handed.{Handed};

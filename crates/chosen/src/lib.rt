@@ -1,4 +1,6 @@
 // Who sends in the slot of a colour, and the slot in bytes. `held` is what each node may send: the packets it holds, or 1 where its merged reading is ready.
+#![tactic(auto)]
+
 ghost use Rattle.std.specs.Prelude.{◌≡◌, not, ◌||◌, ◌&&◌, ◌≤◌, ◌<◌, length};
 ghost use Rattle.meaning.specs.Words.{some, tab, places, by_node};
 ghost use Rattle.meaning.specs.Plan.{front};

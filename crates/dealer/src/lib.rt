@@ -1,4 +1,6 @@
 // The telephone in the dealer's words: how long a slot is, the sentences about a sheet and its merged readings, and the line about other arrangements of its probes.
+#![tactic(auto)]
+
 ghost use Rattle.std.specs.Prelude.{◌≡◌, ◌≤◌, min, length, take};
 ghost use Rattle.lines.specs.Line.{line_length, line_in};
 ghost use Rattle.lines.specs.Fits.{Fits};

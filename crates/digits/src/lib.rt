@@ -1,4 +1,6 @@
 // The number that a word says, as its digits say it, and whether anything but digits stands in it.
+#![tactic(auto)]
+
 ghost use Rattle.std.specs.Prelude.{◌≡◌, ◌+◌, ◌-◌, ◌*◌};
 ghost use Rattle.digits.specs.Digits.{is_digit, others_stand, up_to65535, number_said};
 

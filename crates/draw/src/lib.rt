@@ -1,4 +1,6 @@
 // Writes the conflict table of a sheet as a graph's text, as docs/RULES.md has it under "A graph as text".
+#![tactic(auto)]
+
 ghost use Rattle.std.specs.Prelude.{◌≡◌, cond, [], ◌-◌, ◌≤◌, ◌<◌, length};
 ghost use Rattle.meaning.specs.Words.{places};
 ghost use Rattle.meaning.specs.Plan.{front};

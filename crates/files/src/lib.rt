@@ -1,5 +1,7 @@
 // Files by the program's arguments: a sheet, a plan or a text that is read, and a plan, a book, a text or a sheet that is written whole or not at all;
 // what is said about them, and the exit status.
+#![tactic(auto)]
+
 ghost use Rattle.std.specs.Prelude.{◌≡◌, min, length, replicate};
 ghost use Rattle.std.proofs.lemmas.List.Edits.{sets};
 ghost use Rattle.libc.specs.Io.{Moved};

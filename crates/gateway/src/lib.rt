@@ -1,5 +1,7 @@
 // The library for gateways: telephone, arrangements, planners, judge, chooser, merged readings, wake books, lister and graphs over pointers and lengths,
 // as include/yard.h declares them.
+#![tactic(auto)]
+
 ghost use Rattle.std.specs.Prelude.{◌≡◌, false, cond, ◌+◌, ◌^◌, ◌<◌, length, get_or};
 ghost use Rattle.meaning.specs.declared.Mode.TheVariants.{Merged};
 ghost use Rattle.meaning.specs.Plan.{front};
@@ -22,7 +24,7 @@ use meaning::{Booked, Choice, Judgement, MergedTold, Planned, Told};
 
 // What a planner answers, with C's layout.
 #[repr(C)]
-#[derive(Drop)]
+#[derive(Clone, Copy)]
 pub struct YardPlanned {
     pub number: u8,
     pub place: u16,
@@ -33,7 +35,7 @@ pub struct YardPlanned {
 
 // What the judge answers, with C's layout.
 #[repr(C)]
-#[derive(Drop)]
+#[derive(Clone, Copy)]
 pub struct YardVerdict {
     pub number: u8,
     pub place: u16,
@@ -44,7 +46,7 @@ pub struct YardVerdict {
 
 // What the maker of wake books answers, with C's layout.
 #[repr(C)]
-#[derive(Drop)]
+#[derive(Clone, Copy)]
 pub struct YardBooked {
     pub number: u8,
     pub place: u16,
@@ -55,7 +57,7 @@ pub struct YardBooked {
 
 // What the telephone answers, with C's layout.
 #[repr(C)]
-#[derive(Drop)]
+#[derive(Clone, Copy)]
 pub struct YardTold {
     pub number: u8,
     pub place: u16,
@@ -67,7 +69,7 @@ pub struct YardTold {
 
 // What the telephone answers of merged readings, with C's layout.
 #[repr(C)]
-#[derive(Drop)]
+#[derive(Clone, Copy)]
 pub struct YardMergedTold {
     pub number: u8,
     pub place: u16,
@@ -78,7 +80,7 @@ pub struct YardMergedTold {
 
 // The slots of other arrangements, with C's layout.
 #[repr(C)]
-#[derive(Drop)]
+#[derive(Clone, Copy)]
 pub struct YardSpread {
     pub number: u8,
     pub place: u16,
@@ -88,7 +90,7 @@ pub struct YardSpread {
 
 // What the writer of a graph answers, with C's layout.
 #[repr(C)]
-#[derive(Drop)]
+#[derive(Clone, Copy)]
 pub struct YardDrawn {
     pub number: u8,
     pub place: u16,
@@ -97,7 +99,7 @@ pub struct YardDrawn {
 
 // What the reader of a graph answers, with C's layout.
 #[repr(C)]
-#[derive(Drop)]
+#[derive(Clone, Copy)]
 pub struct YardGraph {
     pub number: u8,
     pub place: u64,

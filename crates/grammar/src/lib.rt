@@ -1,4 +1,6 @@
 // What a line of a graph's text is, by its words: spaces cut a line into words, as newlines cut a text into lines.
+#![tactic(auto)]
+
 ghost use Rattle.std.specs.Prelude.{◌≡◌, ◌+◌, length, drop};
 ghost use Rattle.meaning.specs.Words.{least};
 ghost use Rattle.graph.specs.Part.{space, marks, part};

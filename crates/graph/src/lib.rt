@@ -1,4 +1,6 @@
 // A graph as text: what is read of it and answered. Its meaning, after docs/RULES.md, stands in specs/.
+#![tactic(auto)]
+
 ghost use Rattle.std.specs.Prelude.{◌≡◌, cond, ◌≤◌};
 ghost use Rattle.graph.specs.Table.{edges_of, edges};
 
@@ -8,7 +10,7 @@ use meaning::Outcome;
 pub const ANY_GRAPH: usize = 15081;
 
 // What a line is; a number above 65,535 is kept as 65,535, which is no vertex and no count of edges.
-#[derive(Drop)]
+#[derive(Clone, Copy)]
 pub enum Line {
     Comment,
     Problem(u16, u16),
@@ -17,7 +19,7 @@ pub enum Line {
 }
 
 // What was read of a text so far, beside its table: a fault and its line, the lines, and what the `p` line says.
-#[derive(Drop)]
+#[derive(Clone, Copy)]
 pub struct Reading {
     pub number: u8,
     pub place: u64,
@@ -28,7 +30,7 @@ pub struct Reading {
 }
 
 // What the reader of a graph answers, beside its table; the vertices are 0 on refusal.
-#[derive(Drop)]
+#[derive(Clone, Copy)]
 pub struct Graph {
     pub number: u8,
     pub place: u64,
@@ -36,7 +38,7 @@ pub struct Graph {
 }
 
 // What the writer of a graph answers; the bytes are 0 on refusal.
-#[derive(Drop)]
+#[derive(Clone, Copy)]
 pub struct Drawn {
     pub outcome: Outcome,
     pub bytes: usize,

@@ -1,4 +1,6 @@
 // The judge, of packets and of merged readings: a sheet and anybody's plan in, the verdict and whom it names out.
+#![tactic(auto)]
+
 ghost use Rattle.std.specs.Prelude.{◌≡◌, true, ◌≤◌, length};
 ghost use Rattle.meaning.specs.Words.{by_node};
 ghost use Rattle.meaning.specs.Conflict.{entry};
@@ -14,7 +16,7 @@ ghost use Rattle.judge.specs.SlotTurn.{judging, judging_from, Named, Ready, unna
 use meaning::{Judgement, Mode, Outcome, Slot, Tested, Verdict};
 
 // How far the judge has come: what is wrong so far and whom it names, and where the next slot begins.
-#[derive(Drop)]
+#[derive(Clone, Copy)]
 struct Judged {
     tested: Tested,
     at: usize,

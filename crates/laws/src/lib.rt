@@ -1,4 +1,6 @@
 // The laws of the definitions stand in proofs/. Here are the functions by which all code reads a list and a number of probes as the definitions do.
+#![tactic(auto)]
+
 ghost use Rattle.std.specs.Prelude.{◌≡◌, get_or};
 ghost use Rattle.laws.specs.Few.{at_most63};
 

@@ -1,4 +1,6 @@
 // The lines that the lister prints: each function decides every byte of one, in a lent buffer.
+#![tactic(auto)]
+
 ghost use Rattle.std.specs.Prelude.{◌≡◌, ◌++◌, ◌+◌, ◌≤◌, leb, length};
 ghost use Rattle.meaning.specs.Lister.{decimal, said, senders_text, refusal_line, numbers_line, slot_line};
 ghost use Rattle.lines.specs.Line.{line_length, line_in, fitting, Put};

@@ -1,4 +1,6 @@
 // The plan lister: a sheet on standard input, its plan by probe or its refusal on standard output.
+#![tactic(auto)]
+
 use libc::{STDERR_FILENO, STDIN_FILENO, STDOUT_FILENO};
 
 // The exit status: listed, refused, or neither.

@@ -1,4 +1,6 @@
 // The lister: the whole text that it prints for a sheet.
+#![tactic(auto)]
+
 ghost use Rattle.std.specs.Prelude.{◌≡◌, true, ◌≤◌, length, take};
 ghost use Rattle.meaning.specs.Sheet.{all_packets, heaviest, least_slots};
 ghost use Rattle.meaning.specs.Plan.{slots_from, front};

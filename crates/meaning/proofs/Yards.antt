@@ -39,14 +39,14 @@ pub data Row : Type 0 where
   tested : String → ℕ → ℕ → Row
   room : String → ℕ → Row
   conflicts : String → List (List ℕ) → Row
-  probe_colours : String → List ℕ → Row
+  colours_of_probes : String → List ℕ → Row
   level_conflicts : String → List (List ℕ) → Row
-  level_colours : String → List ℕ → Row
+  colours_of_levels : String → List ℕ → Row
   plan_by_probe : String → ℕ → List ℕ → String → Row
   plan_by_level : String → ℕ → List ℕ → String → Row
   judged : String → String → List ℕ → Row
   named : String → String → List ℕ → Row
-  slot_tested : String → List ℕ → List ℕ → Row
+  tested_slot : String → List ℕ → List ℕ → Row
   holding : String → String → List ℕ → Row
   chosen : String → String → String → String → Row
   listed : String → String → Row
@@ -104,12 +104,12 @@ true-row (tested sheet number place) = gives (sheet_test (hex sheet))
     gives outcome = eqb outcome.number number && eqb outcome.place place
 true-row (room sheet bytes) = eqb (room_for (hops (hex sheet))) bytes
 true-row (conflicts sheet rows) = says (conflict_table (hex sheet)) ([] ∷ [] ∷ rows)
-true-row (probe_colours sheet colours) = same (take (probe_count (hex sheet)) (drop 2 (probe_colours (hex sheet)))) colours
+true-row (colours_of_probes sheet colours) = same (take (probe_count (hex sheet)) (drop 2 (probe_colours (hex sheet)))) colours
 true-row (level_conflicts sheet rows) = says (table_of (levels_conflict (probe_count s) (level_of s) (entry (conflict_table s)))) ([] ∷ rows)
   where
     s : List ℕ
     s = hex sheet
-true-row (level_colours sheet colours) = same (take (depth (hex sheet)) (drop 1 (level_colours (hex sheet)))) colours
+true-row (colours_of_levels sheet colours) = same (take (depth (hex sheet)) (drop 1 (level_colours (hex sheet)))) colours
 true-row (plan_by_probe sheet lent numbers after) = same (planner by_probe (hex sheet) lent) (numbers ++ hex after)
 true-row (plan_by_level sheet lent numbers after) = same (planner by_level (hex sheet) lent) (numbers ++ hex after)
 true-row (judged sheet plan numbers) = same (verdict (judge (hex sheet) (hex plan))) numbers
@@ -117,7 +117,7 @@ true-row (named sheet plan numbers) = same (answered (judgement (hex sheet) (hex
   where
     answered : Judgement → List ℕ
     answered r = verdict r.verdict ++ names r.names
-true-row (slot_tested sheet slot numbers) =
+true-row (tested_slot sheet slot numbers) =
     same (answered (slot_tested (probe_count s) (entry (conflict_table s)) (tab places (packets_of s)) 7 slot)) numbers
   where
     s : List ℕ
@@ -328,11 +328,11 @@ yards =
     ∷ named A "00 01 01 02" (17 ∷ 1 ∷ 0 ∷ 0 ∷ 0 ∷ [])
     ∷ named A "00 03 01 02 02 03 04 01 02" (0 ∷ 0 ∷ 3 ∷ 0 ∷ 0 ∷ [])
     -- a slot's test by itself
-    ∷ slot_tested A (3 ∷ 200 ∷ []) (12 ∷ 7 ∷ 200 ∷ 0 ∷ [])
-    ∷ slot_tested A (4 ∷ 3 ∷ []) (13 ∷ 7 ∷ 3 ∷ 0 ∷ [])
-    ∷ slot_tested below-relays (2 ∷ []) (14 ∷ 7 ∷ 2 ∷ 0 ∷ [])
-    ∷ slot_tested A (2 ∷ 3 ∷ []) (15 ∷ 7 ∷ 2 ∷ 3 ∷ [])
-    ∷ slot_tested A (3 ∷ 4 ∷ []) (0 ∷ 0 ∷ 0 ∷ 0 ∷ [])
+    ∷ tested_slot A (3 ∷ 200 ∷ []) (12 ∷ 7 ∷ 200 ∷ 0 ∷ [])
+    ∷ tested_slot A (4 ∷ 3 ∷ []) (13 ∷ 7 ∷ 3 ∷ 0 ∷ [])
+    ∷ tested_slot below-relays (2 ∷ []) (14 ∷ 7 ∷ 2 ∷ 0 ∷ [])
+    ∷ tested_slot A (2 ∷ 3 ∷ []) (15 ∷ 7 ∷ 2 ∷ 3 ∷ [])
+    ∷ tested_slot A (3 ∷ 4 ∷ []) (0 ∷ 0 ∷ 0 ∷ 0 ∷ [])
     -- 16: a byte behind the last slot, its place the slot count; before 17
     ∷ judged A "00 00 00" (16 ∷ 0 ∷ 0 ∷ [])
     ∷ judged A "00 03 01 02 02 03 04 01 02 00" (16 ∷ 3 ∷ 0 ∷ [])
@@ -366,15 +366,15 @@ yards =
     ∷ numbers_text 63 30240 945 105 1875 "colours 63 slots 30240 packets 945 heaviest 105 least 1875\n"
     ∷ slot_text 120 (9 ∷ 10 ∷ 64 ∷ []) "120: 9 10 64\n"
     -- colours by probe: falling degree, ties by lower number, the smallest that is free
-    ∷ probe_colours A (1 ∷ 2 ∷ 2 ∷ [])
-    ∷ probe_colours A-with-a-pair (1 ∷ 2 ∷ 3 ∷ [])
-    ∷ probe_colours chain (1 ∷ 2 ∷ 3 ∷ [])
-    ∷ probe_colours five (3 ∷ 2 ∷ 1 ∷ 3 ∷ 2 ∷ [])
-    ∷ probe_colours (star 4 "04 " "00 00") (1 ∷ 2 ∷ 3 ∷ 4 ∷ [])
+    ∷ colours_of_probes A (1 ∷ 2 ∷ 2 ∷ [])
+    ∷ colours_of_probes A-with-a-pair (1 ∷ 2 ∷ 3 ∷ [])
+    ∷ colours_of_probes chain (1 ∷ 2 ∷ 3 ∷ [])
+    ∷ colours_of_probes five (3 ∷ 2 ∷ 1 ∷ 3 ∷ 2 ∷ [])
+    ∷ colours_of_probes (star 4 "04 " "00 00") (1 ∷ 2 ∷ 3 ∷ 4 ∷ [])
     -- colours by level, likewise
-    ∷ level_colours A (1 ∷ 2 ∷ [])
-    ∷ level_colours five (3 ∷ 2 ∷ 1 ∷ 3 ∷ 2 ∷ [])
-    ∷ level_colours (star 4 "04 " "00 00") (1 ∷ [])
+    ∷ colours_of_levels A (1 ∷ 2 ∷ [])
+    ∷ colours_of_levels five (3 ∷ 2 ∷ 1 ∷ 3 ∷ 2 ∷ [])
+    ∷ colours_of_levels (star 4 "04 " "00 00") (1 ∷ [])
     -- no probes
     ∷ plan_by_probe "00 00 00" 2 (0 ∷ 0 ∷ 0 ∷ 0 ∷ 2 ∷ []) "00 00"
     ∷ plan_by_level "00 00 00" 2 (0 ∷ 0 ∷ 0 ∷ 0 ∷ 2 ∷ []) "00 00"

@@ -1,4 +1,6 @@
 // The yard's own numbers and answers. Their meaning, after docs/RULES.md, stands in specs/.
+#![tactic(auto)]
+
 ghost use Rattle.std.specs.Prelude.{◌≡◌};
 ghost use Rattle.meaning.specs.Answer.{refused_plan};
 
@@ -24,27 +26,27 @@ pub const ANY_BOOK: usize = 119322;
 pub const ANY_TEXT: usize = 302467;
 
 // A node's number: the gateway's, 1, or a probe's.
-#[derive(Drop)]
+#[derive(Clone, Copy)]
 pub struct Node(pub u8);
 
 // A probe's number, from 2.
-#[derive(Drop)]
+#[derive(Clone, Copy)]
 pub struct Probe(pub u8);
 
 // A level, the number of hops to the gateway, 0 to 63.
-#[derive(Drop)]
+#[derive(Clone, Copy)]
 pub struct Level(pub u8);
 
 // A colour, from 1; 0 where none is given yet.
-#[derive(Drop)]
+#[derive(Clone, Copy)]
 pub struct Colour(pub u8);
 
 // A slot's number, from 1.
-#[derive(Drop)]
+#[derive(Clone, Copy)]
 pub struct Slot(pub u16);
 
 // A number of the table in RULES, "Numbers returned", and its place; both are 0 where nothing is wrong.
-#[derive(Drop)]
+#[derive(Clone, Copy)]
 pub struct Outcome {
     pub number: u8,
     pub place: u16,
@@ -57,7 +59,7 @@ pub const ACCEPTED: Outcome = Outcome {
 };
 
 // What a planner answers; the last three are 0 on refusal.
-#[derive(Drop)]
+#[derive(Clone, Copy)]
 pub struct Planned {
     pub outcome: Outcome,
     pub colours: u8,
@@ -66,21 +68,21 @@ pub struct Planned {
 }
 
 // Where a walk from parent to parent ends: at the gateway, after so many hops, or nowhere.
-#[derive(Drop)]
+#[derive(Clone, Copy)]
 pub enum Walk {
     Arrives(Level),
     Never,
 }
 
 // The verdict on a plan; the slots are 0 unless it is passed.
-#[derive(Drop)]
+#[derive(Clone, Copy)]
 pub struct Verdict {
     pub outcome: Outcome,
     pub slots: u16,
 }
 
 // Whom a refusal names: senders of the slot, by their bytes; 0 where it names nobody. A sender may be 0 itself: the number tells.
-#[derive(Drop)]
+#[derive(Clone, Copy)]
 pub struct Names {
     pub first: u8,
     pub second: u8,
@@ -93,7 +95,7 @@ pub const NOBODY: Names = Names {
 };
 
 // What the test of a slot, or of a plan's slots, answers.
-#[derive(Drop)]
+#[derive(Clone, Copy)]
 pub struct Tested {
     pub outcome: Outcome,
     pub names: Names,
@@ -106,14 +108,14 @@ pub const PASSED: Tested = Tested {
 };
 
 // What the judge answers: the verdict, and whom it names.
-#[derive(Drop)]
+#[derive(Clone, Copy)]
 pub struct Judgement {
     pub verdict: Verdict,
     pub names: Names,
 }
 
 // What the maker of wake books answers: the judge's outcome and names, or 22; the bytes are 0 on refusal.
-#[derive(Drop)]
+#[derive(Clone, Copy)]
 pub struct Booked {
     pub outcome: Outcome,
     pub names: Names,
@@ -121,7 +123,7 @@ pub struct Booked {
 }
 
 // What the telephone answers; the last four are 0 on refusal.
-#[derive(Drop)]
+#[derive(Clone, Copy)]
 pub struct Told {
     pub outcome: Outcome,
     pub least: u16,
@@ -131,14 +133,14 @@ pub struct Told {
 }
 
 // What a reading brings in: every packet of every probe, or one reading of each probe, merged on its way.
-#[derive(Drop)]
+#[derive(Clone, Copy)]
 pub enum Mode {
     Packets,
     Merged,
 }
 
 // What the telephone answers of merged readings; the last three are 0 on refusal.
-#[derive(Drop)]
+#[derive(Clone, Copy)]
 pub struct MergedTold {
     pub outcome: Outcome,
     pub least: u16,
@@ -147,7 +149,7 @@ pub struct MergedTold {
 }
 
 // Which of two plans the chooser hands back.
-#[derive(Drop)]
+#[derive(Clone, Copy)]
 pub enum Choice {
     Neither,
     First,

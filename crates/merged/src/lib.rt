@@ -1,4 +1,6 @@
 // The telephone of merged readings: how long one takes, told of a sheet before anything is sent. The theorems about it stand in proofs/MergedLimits.antt.
+#![tactic(auto)]
+
 ghost use Rattle.std.specs.Prelude.{◌≡◌, ◌*◌, min};
 ghost use Rattle.meaning.specs.Merged.{merged_asked};
 

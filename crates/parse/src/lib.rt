@@ -1,4 +1,6 @@
 // A graph's text read line by line into a lent table. What a text means, after docs/RULES.md, stands in crate graph's specs/.
+#![tactic(auto)]
+
 ghost use Rattle.std.specs.Prelude.{◌≡◌, ◌⊎◌, ◌≤◌, drop};
 ghost use Rattle.meaning.specs.Words.{places};
 ghost use Rattle.meaning.specs.Conflict.{entry};
@@ -17,7 +19,7 @@ const NEWLINE: u8 = 10;
 const LAST_LINE: u64 = 18446744073709551615;
 
 // What was read of a text, and where its last line begins, which is not ended yet.
-#[derive(Drop)]
+#[derive(Clone, Copy)]
 pub struct Stepped {
     pub read: Reading,
     pub at: usize,

@@ -1,4 +1,6 @@
 // The planners of packets, by probe and by level, and of merged readings: a sheet and a lent buffer in, the plan or a numbered refusal out.
+#![tactic(auto)]
+
 ghost use Rattle.std.specs.Prelude.{◌≡◌, cond, eqb, ltb, length, get_or};
 ghost use Rattle.meaning.specs.Words.{tab, places, by_node};
 ghost use Rattle.meaning.specs.Plan.{room_for, front};
@@ -13,14 +15,14 @@ use meaning::{Colour, Mode, Outcome, Planned};
 use sheet::Tree;
 
 // What was written into the rest of a buffer.
-#[derive(Drop)]
+#[derive(Clone, Copy)]
 struct Made {
     bytes: usize,
     slots: usize,
 }
 
 // What a planner goes by, beside the conflict table: what a reading brings in, the probes, their parents and colours, and how many colours there are.
-#[derive(Drop)]
+#[derive(Clone, Copy)]
 struct Way {
     mode: Mode,
     probes: u8,

@@ -1,4 +1,6 @@
 // Plans by the program's arguments: one that was made is written to its file, a judgement is said; and what is asked of merged readings.
+#![tactic(auto)]
+
 ghost use Rattle.std.specs.Prelude.{◌≡◌, length, replicate};
 ghost use Rattle.meaning.specs.Plan.{any_merged, deciding_merged};
 ghost use Rattle.meaning.specs.Answer.{merged_made};

@@ -1,4 +1,6 @@
 // A plan is read slot by slot, and each slot's number is put into the lists of who sends and of who hears in it.
+#![tactic(auto)]
+
 ghost use Rattle.std.specs.Prelude.{◌≡◌, ◌+◌, ◌≤◌, length};
 ghost use Rattle.meaning.specs.Plan.{senders_at, slots_from};
 ghost use Rattle.slot.specs.Place.{slot_at};
@@ -63,7 +65,7 @@ fn note_slot(places: &[usize; 130], slot: Slot, senders: &[u8], book: &mut [u8])
 }
 
 // A plan, and where its next slot begins.
-#[derive(Drop)]
+#[derive(Clone, Copy)]
 pub struct Reader<'a> {
     pub plan: &'a [u8],
     pub at: usize,

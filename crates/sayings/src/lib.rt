@@ -1,4 +1,6 @@
 // The words of the numbers: `put_saying` and `put_saying_in` decide every byte of them, at a place of a lent buffer.
+#![tactic(auto)]
+
 ghost use Rattle.std.specs.Prelude.{◌<◌};
 ghost use Rattle.lines.specs.Line.{fitting, Put};
 ghost use Rattle.sayings.specs.Saying.{saying, saying_in};

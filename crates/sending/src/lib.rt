@@ -1,4 +1,6 @@
 // What may be sent and where it goes, of packets and of merged readings: what is held at first, who is ready, and what a slot that is sent does to what is held.
+#![tactic(auto)]
+
 ghost use Rattle.std.specs.Prelude.{◌≡◌, cond};
 ghost use Rattle.meaning.specs.Words.{by_node, tab, places};
 ghost use Rattle.meaning.specs.Rounds.{one_each, ready, goes_in, waits};

@@ -1,4 +1,6 @@
 // Reads a yard sheet once: its first refusal, or the tree that it describes; and the conflict table of the sheet.
+#![tactic(auto)]
+
 ghost use Rattle.std.specs.Prelude.{◌≡◌, ◌<◌, ◌≤◌, ◌||◌, ◌&&◌, eqb, ltb, leb, drop};
 ghost use Rattle.meaning.specs.Words.{tab, places, by_node};
 ghost use Rattle.meaning.specs.Sheet.{probe_records, pair_count_at, pair_count, pair_records, interfere};
@@ -9,7 +11,7 @@ ghost use Rattle.sheet.specs.Tree.{of_the_sheet, record_byte, strayed, walks_of,
 use meaning::{Node, Outcome, Probe, Walk};
 
 // What a sheet is read as; parents, packets and levels stand by node, and all is 0 where it is refused.
-#[derive(Drop)]
+#[derive(Clone, Copy)]
 pub struct Tree {
     pub outcome: Outcome,
     pub probes: u8,
@@ -20,7 +22,7 @@ pub struct Tree {
 }
 
 // What the probes' walks come to; the levels stand by node, and are 0 where a probe never arrives.
-#[derive(Drop)]
+#[derive(Clone, Copy)]
 struct Walks {
     outcome: Outcome,
     levels: [u8; 65],

@@ -1,4 +1,6 @@
 // What is done with a slot: where it stands in a plan, its test, moving its packets, and whether any packet is outside the gateway.
+#![tactic(auto)]
+
 ghost use Rattle.std.specs.Prelude.{◌≡◌, ◌+◌, ◌-◌, ◌≤◌, ◌<◌, length, get_or};
 ghost use Rattle.meaning.specs.Words.{by_node, least};
 ghost use Rattle.meaning.specs.Yard.{is_probe};
@@ -15,7 +17,7 @@ ghost use Rattle.slot.specs.Move.{hop_within, moved_within};
 use meaning::{Names, Outcome, Probe, Slot, Tested};
 
 // Where a slot stands in a plan.
-#[derive(Drop)]
+#[derive(Clone, Copy)]
 pub struct SlotAt {
     pub first: usize,
     pub many: usize,
@@ -120,7 +122,7 @@ fn no_packet(held: &[u16; 65], slot: &[u8]) -> usize
 }
 
 // The places of two senders; their number, twice, where there are no such two.
-#[derive(Drop)]
+#[derive(Clone, Copy)]
 struct Two {
     first: usize,
     second: usize,

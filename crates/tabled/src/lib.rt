@@ -1,4 +1,6 @@
 // A graph's table as a person reads it: every byte of it, in a lent buffer.
+#![tactic(auto)]
+
 ghost use Rattle.std.specs.Prelude.{◌≡◌, cond, [], ◌≤◌, length, take};
 ghost use Rattle.meaning.specs.Lister.{said};
 ghost use Rattle.lines.specs.Line.{line_length, line_in};

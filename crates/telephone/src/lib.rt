@@ -1,4 +1,6 @@
 // The telephone: how long a reading takes, told of a sheet before anything is sent. The theorems about it stand in proofs/Limits.antt.
+#![tactic(auto)]
+
 ghost use Rattle.std.specs.Prelude.{◌≡◌, ◌*◌, min};
 ghost use Rattle.meaning.specs.Telephone.{times_any, asked};
 

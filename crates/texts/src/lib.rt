@@ -1,4 +1,6 @@
 // Graphs by the program's arguments: a sheet's graph written as text, and a text of any length judged line by line and shown as a table.
+#![tactic(auto)]
+
 ghost use Rattle.std.specs.Prelude.{◌≡◌};
 ghost use Rattle.io.specs.Counts.{IsPrefixLen};
 ghost use Rattle.graph.specs.Drawing.{graph_made};
@@ -18,7 +20,7 @@ const UNREAD: u8 = 1;
 
 const TOO_LONG: u8 = 2;
 
-#[derive(Drop)]
+#[derive(Clone, Copy)]
 struct Seen {
     read: Reading,
     how: u8,

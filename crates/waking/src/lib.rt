@@ -1,4 +1,6 @@
 // A wake book as a person reads it: the line of each probe, from the bytes of its entry.
+#![tactic(auto)]
+
 ghost use Rattle.std.specs.Prelude.{◌≡◌, ◌+◌, ◌≤◌, length, take};
 ghost use Rattle.meaning.specs.Sheet.{two_at};
 ghost use Rattle.meaning.specs.Book.{list_at, behind_list, slots_text, wake_line};

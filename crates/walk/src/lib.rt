@@ -1,4 +1,6 @@
 // Walking from parent to parent, and what levels come to: hops and the depth of a yard. Tables are by node; outside them every number is 0.
+#![tactic(auto)]
+
 ghost use Rattle.std.specs.Prelude.{◌≡◌, ◌*◌, ◌≤◌, get_or};
 ghost use Rattle.meaning.specs.Words.{most_probes, by_node};
 ghost use Rattle.meaning.specs.Yard.{climbed, hops_of};

@@ -1,4 +1,6 @@
 // The front door's answers in words: each public function decides every byte of one, in a lent buffer.
+#![tactic(auto)]
+
 ghost use Rattle.std.specs.Prelude.{◌≡◌, ◌++◌, ◌≤◌, min, length, take};
 ghost use Rattle.meaning.specs.Lister.{text, refusal};
 ghost use Rattle.lines.specs.Line.{line_length, line_in};

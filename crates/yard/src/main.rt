@@ -1,5 +1,7 @@
 // The front door: answers, plans, judges, chooses, lists, makes wake books, merges readings, draws graphs and hangs the same probes otherwise, by file names.
 // The first word of an answer is fixed, so that a script can go by it.
+#![tactic(auto)]
+
 use files::{ANSWERED, FAILED, REFUSED};
 use libc::{STDERR_FILENO, STDOUT_FILENO};
 use meaning::{Choice, Mode, Outcome, Told};
