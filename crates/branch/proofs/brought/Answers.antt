@@ -1,0 +1,13 @@
+-- `branch::brought` meets its contract: it goes by whether the walk comes to the top.
+use mathlib.Core.Path.{refl}
+use Rattle.branch.proofs.Walking.{brings, brings-none}
+use borrow.Author.Rules.{rules}
+use Rattle.branch.proofs.brought.Goals as goal
+
+pub returns-then-comes_to : goal.returns-then-comes_to
+returns-then-comes_to c =
+    brings _ _ _ _ _ c.if-comes_to.true c.comes_to.ensures c.number_at.ensures
+
+pub returns : goal.returns
+returns c =
+    brings-none _ _ _ _ _ c.if-comes_to.false c.comes_to.ensures refl

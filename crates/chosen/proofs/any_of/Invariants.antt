@@ -1,0 +1,16 @@
+-- `chosen::any_of` meets its contract: before place i it has looked at all flags.
+use mathlib.Core.Path.{◌≡◌, refl, sym, ap, ◌∙◌}
+use mathlib.Core.Bool.{Bool, false, ◌||◌}
+use Prim.Native.Nat.{ℕ, ◌-◌, ◌≤◌}
+use lib.ListN.{get_or}
+use Rattle.meaning.specs.Words.{some, places}
+use Rattle.laws.proofs.Turns.{some_one}
+use native.Mathlib.Omega.{arith}
+use borrow.Author.Rules.{rules}
+use Rattle.chosen.proofs.any_of.Given as goal
+
+abbrev pub invariant-loop-i : goal.invariant-loop-i
+invariant-loop-i l = (l.i ≤ 65) × (l.any ≡ some l.i (λ v. get_or l.flags v false))
+
+abbrev pub decreases-loop-i : goal.decreases-loop-i
+decreases-loop-i l = 65 - l.i

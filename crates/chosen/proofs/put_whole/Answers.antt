@@ -1,0 +1,36 @@
+-- `chosen::put_whole` meets its contract: where the bytes fit, the first i of them are copied.
+use mathlib.Core.Path.{refl, sym, ap}
+use Prim.Native.Nat.{◌-◌}
+use lib.ListN.{length}
+use Rattle.meaning.specs.Plan.{front}
+use Rattle.chosen.proofs.Writing.{Copying, copying-long, copying-next, copied, whole-short}
+use native.Mathlib.Omega.{arith}
+use borrow.Author.Rules.{rules}
+use Rattle.chosen.proofs.put_whole.Goals as goal
+
+pub returns-then-rest-bytes : goal.returns-then-rest-bytes
+returns-then-rest-bytes c =
+    let all = let a = c.args in
+    let none = whole-short a.rest.now a.bytes.now c.if-rest-bytes.true in
+    (ap length (sym none), ap (front a.rest.now) (sym none)) in record { answer = all.0; rest = all.1 }
+
+pub loop-i-init : goal.loop-i-init
+loop-i-init c =
+    record { within = omega arith; room = c.if-rest-bytes.false; wrote = refl }
+
+pub bounds-rest-i : goal.bounds-rest-i
+bounds-rest-i c =
+    let l = c.loop-i in
+    omega (arith, c.loop-i-test.true, copying-long _ _ l.rest l.i l.invariant, l.invariant.room)
+
+pub loop-i-preserved : goal.loop-i-preserved
+loop-i-preserved c =
+    let l = c.loop-i in copying-next _ _ l.rest l.i l.invariant c.loop-i-test.true
+
+pub shape_of-rest : goal.shape_of-rest
+shape_of-rest c =
+    let l = c.loop-i in copying-long _ _ l.rest l.i l.invariant
+
+pub returns : goal.returns
+returns c =
+    let all = let l = c.loop-i in copied _ _ l.rest l.i l.invariant c.loop-i-test.false in record { answer = all.0; rest = all.1 }

@@ -1,0 +1,17 @@
+-- `conflict::heard` meets its contract. The invariant: the row is filled as far as the loop has come.
+use Prim.Native.Nat.{◌≤◌, ◌-◌}
+use mathlib.Core.Path.{◌≡◌, refl}
+use native.Mathlib.Omega.{arith}
+use borrow.Author.Rules.{rules}
+use lib.ListN.{length, take, length-set}
+use Rattle.meaning.specs.Words.{tab}
+use Rattle.laws.proofs.Turns.{tab-next}
+use Rattle.conflict.specs.Heard.{heard_in}
+use Rattle.conflict.proofs.Tables.{filled}
+use Rattle.conflict.proofs.heard.Given as goal
+
+abbrev pub invariant-loop-y : goal.invariant-loop-y
+invariant-loop-y l = (l.y ≤ 65) × (length l.out ≡ 65) × (take l.y l.out ≡ tab l.y (heard_in l.probes l.parents l.pairs l.x l.up l.over))
+
+abbrev pub decreases-loop-y : goal.decreases-loop-y
+decreases-loop-y l = 65 - l.y

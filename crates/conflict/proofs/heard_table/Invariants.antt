@@ -1,0 +1,17 @@
+-- `conflict::heard_table` meets its contract. The invariant: the table is filled as far as the loop has come.
+use Prim.Native.Nat.{◌≤◌, ◌-◌}
+use mathlib.Core.Path.{◌≡◌, refl}
+use native.Mathlib.Omega.{arith}
+use borrow.Author.Rules.{rules}
+use lib.ListN.{length, take, length-set}
+use Rattle.meaning.specs.Words.{tab, places}
+use Rattle.laws.proofs.Turns.{tab-next}
+use Rattle.conflict.specs.Heard.{heard_row}
+use Rattle.conflict.proofs.Tables.{filled}
+use Rattle.conflict.proofs.heard_table.Given as goal
+
+abbrev pub invariant-loop-x : goal.invariant-loop-x
+invariant-loop-x l = (l.x ≤ 65) × (length l.t ≡ 65) × (take l.x l.t ≡ tab l.x (λ a. tab places (heard_row l.probes l.parents l.pairs a)))
+
+abbrev pub decreases-loop-x : goal.decreases-loop-x
+decreases-loop-x l = 65 - l.x

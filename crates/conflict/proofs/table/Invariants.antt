@@ -1,0 +1,22 @@
+-- `conflict::table` meets its contract. The invariant: the table is filled as far as the loop has come.
+use Prim.Native.Nat.{◌≤◌, ◌-◌}
+use mathlib.Core.Path.{◌≡◌, refl, ◌∙◌}
+use native.Mathlib.Omega.{arith}
+use borrow.Author.Rules.{rules}
+use mir.Val.{Fits}
+use mir.Syntax.{w8}
+use lib.ListN.{length, get_or, take, length-set}
+use Rattle.meaning.specs.Sheet.{interfere}
+use Rattle.meaning.specs.Conflict.{entry}
+use Rattle.meaning.specs.Words.{tab, places}
+use Rattle.laws.proofs.Turns.{tab-next}
+use Rattle.conflict.specs.Heard.{of_probe, either_way}
+use Rattle.conflict.proofs.Hearing.{conflict-rows}
+use Rattle.conflict.proofs.Tables.{filled}
+use Rattle.conflict.proofs.table.Given as goal
+
+abbrev pub invariant-loop-x : goal.invariant-loop-x
+invariant-loop-x l = (l.x ≤ 65) × (length l.t ≡ 65) × (take l.x l.t ≡ tab l.x (λ a. tab places (of_probe l.probes (either_way (entry l.heard)) a)))
+
+abbrev pub decreases-loop-x : goal.decreases-loop-x
+decreases-loop-x l = 65 - l.x

@@ -1,0 +1,15 @@
+-- `lines::put_text` meets its contract. The invariant: the first i bytes are put. The measure is what is left of the bytes.
+use mathlib.Core.Path.{◌≡◌, refl}
+use Prim.Native.Nat.{◌+◌, ◌-◌, ◌≤◌}
+use lib.ListN.{length, take, length-set}
+use Rattle.lines.specs.Line.{Put}
+use Rattle.lines.proofs.Putting.{put-start, put_next, put_all}
+use native.Mathlib.Omega.{arith}
+use borrow.Author.Rules.{rules}
+use Rattle.lines.proofs.put_text.Given as goal
+
+abbrev pub invariant-loop-i : goal.invariant-loop-i
+invariant-loop-i l = (l.i ≤ length l.bytes) × (length l.out ≡ length l.initial.out) × Put l.initial.out l.at (take l.i l.bytes) l.out (l.at + l.i)
+
+abbrev pub decreases-loop-i : goal.decreases-loop-i
+decreases-loop-i l = length l.bytes - l.i
