@@ -1,11 +1,9 @@
 -- `branch::all_packets` meets its contract. The invariant: so far it is the sum over the first k probes, each at most 255. The measure is what is left of p.
 use mathlib.Core.Path.{◌≡◌, refl, sym, ap₂, ◌∙◌}
-use Prim.Native.Nat.{◌+◌, ◌-◌, ◌*◌, ◌≤◌}
-use lib.ListN.{get_or}
+use Prim.Native.Nat.{◌+◌}
 use Rattle.meaning.specs.Words.{sum}
 use Rattle.laws.proofs.Turns.{sum_one}
 use native.Mathlib.Omega.{arith}
-use borrow.Author.Rules.{rules}
 use Rattle.branch.proofs.all_packets.Goals as goal
 
 pub loop-k-init : goal.loop-k-init

@@ -1,11 +1,8 @@
 -- `branch::comes_to` meets its contract. The invariant: the walk from here, in the hops that are left, answers the whole. The measure is what is left.
-use mathlib.Core.Path.{◌≡◌, refl, sym, ◌∙◌}
-use lib.ListN.{get_or}
-use Rattle.meaning.specs.Yard.{reaches}
+use mathlib.Core.Path.{refl, sym, ◌∙◌}
 use Rattle.laws.proofs.Walk.{reaches_here}
 use Rattle.branch.proofs.Walking.{comes-last, comes-on, stays}
 use native.Mathlib.Omega.{arith}
-use borrow.Author.Rules.{rules}
 use Rattle.branch.proofs.comes_to.Goals as goal
 
 pub loop-left-init : goal.loop-left-init

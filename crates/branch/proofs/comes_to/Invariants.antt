@@ -1,11 +1,7 @@
 -- `branch::comes_to` meets its contract. The invariant: the walk from here, in the hops that are left, answers the whole. The measure is what is left.
-use mathlib.Core.Path.{◌≡◌, refl, sym, ◌∙◌}
+use mathlib.Core.Path.{◌≡◌}
 use lib.ListN.{get_or}
 use Rattle.meaning.specs.Yard.{reaches}
-use Rattle.laws.proofs.Walk.{reaches_here}
-use Rattle.branch.proofs.Walking.{comes-last, comes-on, stays}
-use native.Mathlib.Omega.{arith}
-use borrow.Author.Rules.{rules}
 use Rattle.branch.proofs.comes_to.Given as goal
 
 abbrev pub invariant-loop-left : goal.invariant-loop-left

@@ -1,7 +1,6 @@
 -- `branch::lag_brought` meets its contract: it goes by whether the walk comes to the top.
 use mathlib.Core.Path.{refl}
 use Rattle.branch.proofs.Walking.{brings, brings-none}
-use borrow.Author.Rules.{rules}
 use Rattle.branch.proofs.lag_brought.Goals as goal
 
 pub returns-then-comes_to : goal.returns-then-comes_to

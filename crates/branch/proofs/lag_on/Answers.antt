@@ -1,13 +1,9 @@
 -- `branch::lag_on` meets its contract. The invariant: the lag from here, in the hops that are left, is the whole, and the lag so far is at most the hops
 -- walked. The measure is what is left.
-use mathlib.Core.Path.{◌≡◌, refl, sym, ◌∙◌}
-use Prim.Native.Nat.{◌+◌, ◌≤◌}
-use lib.ListN.{get_or}
-use Rattle.meaning.specs.Yard.{lag_on}
+use mathlib.Core.Path.{refl, sym, ◌∙◌}
 use Rattle.laws.proofs.Walk.{lag-here}
 use Rattle.branch.proofs.Walking.{lag-last, lag-next}
 use native.Mathlib.Omega.{arith}
-use borrow.Author.Rules.{rules}
 use Rattle.branch.proofs.lag_on.Goals as goal
 
 pub loop-left-init : goal.loop-left-init

@@ -1,7 +1,7 @@
 -- `chosen::any_of` meets its contract: before place i it has looked at all flags.
 use mathlib.Core.Path.{◌≡◌, refl, sym, ap, ◌∙◌}
 use mathlib.Core.Bool.{Bool, false, ◌||◌}
-use Prim.Native.Nat.{ℕ, ◌-◌, ◌≤◌}
+use Prim.Native.Nat.{ℕ}
 use lib.ListN.{get_or}
 use Rattle.meaning.specs.Words.{some, places}
 use Rattle.laws.proofs.Turns.{some_one}

@@ -1,12 +1,9 @@
 -- `chosen::any_of` meets its contract: before place i it has looked at all flags.
-use mathlib.Core.Path.{◌≡◌, refl, sym, ap, ◌∙◌}
-use mathlib.Core.Bool.{Bool, false, ◌||◌}
-use Prim.Native.Nat.{ℕ, ◌-◌, ◌≤◌}
+use mathlib.Core.Path.{◌≡◌}
+use mathlib.Core.Bool.{false}
+use Prim.Native.Nat.{◌-◌, ◌≤◌}
 use lib.ListN.{get_or}
-use Rattle.meaning.specs.Words.{some, places}
-use Rattle.laws.proofs.Turns.{some_one}
-use native.Mathlib.Omega.{arith}
-use borrow.Author.Rules.{rules}
+use Rattle.meaning.specs.Words.{some}
 use Rattle.chosen.proofs.any_of.Given as goal
 
 abbrev pub invariant-loop-i : goal.invariant-loop-i

@@ -1,10 +1,8 @@
 -- `chosen::block` meets its contract: before place i the flags are joined, behind it they stand as they came.
 use mathlib.Core.Path.{ap}
 use mathlib.Core.Bool.{false, ◌||◌}
-use Prim.Native.Nat.{◌-◌}
 use lib.ListN.{get_or}
-use Rattle.laws.proofs.Lists.{Becoming, becoming-start, next_place, becoming-next, becoming-whole}
-use borrow.Author.Rules.{rules}
+use Rattle.laws.proofs.Lists.{becoming-start, next_place, becoming-next, becoming-whole}
 use Rattle.chosen.proofs.block.Goals as goal
 
 pub loop-i-init : goal.loop-i-init

@@ -1,11 +1,6 @@
 -- `chosen::free_to_send` meets its contract: before place i the flags are set.
 use mathlib.Core.Path.{refl}
-use mathlib.Core.Bool.{false, not, ◌&&◌, ◌||◌}
-use Prim.Native.Nat.{◌-◌}
-use lib.ListN.{get_or}
-use Rattle.meaning.specs.Rounds.{holds}
-use Rattle.laws.proofs.Lists.{Becoming, becoming-start, becoming-next, becoming-whole}
-use borrow.Author.Rules.{rules}
+use Rattle.laws.proofs.Lists.{becoming-start, becoming-next, becoming-whole}
 use Rattle.chosen.proofs.free_to_send.Goals as goal
 
 pub loop-i-init : goal.loop-i-init

@@ -1,11 +1,9 @@
 -- `chosen::free_to_send` meets its contract: before place i the flags are set.
-use mathlib.Core.Path.{refl}
 use mathlib.Core.Bool.{false, not, ◌&&◌, ◌||◌}
 use Prim.Native.Nat.{◌-◌}
 use lib.ListN.{get_or}
 use Rattle.meaning.specs.Rounds.{holds}
-use Rattle.laws.proofs.Lists.{Becoming, becoming-start, becoming-next, becoming-whole}
-use borrow.Author.Rules.{rules}
+use Rattle.laws.proofs.Lists.{Becoming}
 use Rattle.chosen.proofs.free_to_send.Given as goal
 
 abbrev pub invariant-loop-i : goal.invariant-loop-i

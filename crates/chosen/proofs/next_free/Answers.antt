@@ -1,8 +1,4 @@
 -- `chosen::next_free` meets its contract: no place from k up to j is free.
-use mathlib.Core.Path.{◌≡◌}
-use mathlib.Core.Bool.{false}
-use Prim.Native.Nat.{ℕ, ◌+◌, ◌-◌, ◌≤◌, ◌<◌}
-use lib.ListN.{get_or}
 use borrow.Author.Count.{below_more}
 use native.Mathlib.Omega.{arith}
 use borrow.Author.Rules.{rules}

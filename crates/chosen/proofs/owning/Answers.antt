@@ -1,12 +1,7 @@
 -- `chosen::owning` meets its contract: before place i the flags are set.
 use mathlib.Core.Path.{refl}
-use mathlib.Core.Bool.{◌&&◌}
-use lib.Dec.{eqb}
-use lib.ListN.{get_or}
-use Rattle.meaning.specs.Rounds.{holds, owners_by_probe}
-use Prim.Native.Nat.{◌-◌}
-use Rattle.laws.proofs.Lists.{Becoming, becoming-start, becoming-next, becoming-whole}
-use borrow.Author.Rules.{rules}
+use Rattle.meaning.specs.Rounds.{owners_by_probe}
+use Rattle.laws.proofs.Lists.{becoming-start, becoming-next, becoming-whole}
 use Rattle.chosen.proofs.owning.Goals as goal
 
 pub loop-i-init : goal.loop-i-init

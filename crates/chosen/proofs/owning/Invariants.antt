@@ -1,12 +1,10 @@
 -- `chosen::owning` meets its contract: before place i the flags are set.
-use mathlib.Core.Path.{refl}
 use mathlib.Core.Bool.{◌&&◌}
 use lib.Dec.{eqb}
 use lib.ListN.{get_or}
-use Rattle.meaning.specs.Rounds.{holds, owners_by_probe}
+use Rattle.meaning.specs.Rounds.{holds}
 use Prim.Native.Nat.{◌-◌}
-use Rattle.laws.proofs.Lists.{Becoming, becoming-start, becoming-next, becoming-whole}
-use borrow.Author.Rules.{rules}
+use Rattle.laws.proofs.Lists.{Becoming}
 use Rattle.chosen.proofs.owning.Given as goal
 
 abbrev pub invariant-loop-i : goal.invariant-loop-i

@@ -1,10 +1,8 @@
 -- `chosen::shut` meets its contract: before place i those in conflict are shut, behind it the flags stand as they came.
-use mathlib.Core.Path.{ap}
-use mathlib.Core.Bool.{Bool, false, not, ◌&&◌, ◌||◌}
+use mathlib.Core.Bool.{false, not, ◌&&◌, ◌||◌}
 use Prim.Native.Nat.{◌-◌}
 use lib.ListN.{get_or}
-use Rattle.laws.proofs.Lists.{Becoming, becoming-start, next_place, becoming-next, becoming-whole}
-use borrow.Author.Rules.{rules}
+use Rattle.laws.proofs.Lists.{Becoming}
 use Rattle.chosen.proofs.shut.Given as goal
 
 abbrev pub invariant-loop-i : goal.invariant-loop-i

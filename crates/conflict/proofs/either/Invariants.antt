@@ -1,15 +1,10 @@
 -- `conflict::either` meets its contract: what is no probe has an empty row. The invariant: the row is filled as far as the loop has come.
 use Prim.Native.Nat.{◌≤◌, ◌-◌}
-use mathlib.Core.Path.{◌≡◌, refl}
-use native.Mathlib.Omega.{arith}
-use borrow.Author.Rules.{rules}
-use lib.ListN.{length, take, length-set}
+use mathlib.Core.Path.{◌≡◌}
+use lib.ListN.{length, take}
 use Rattle.meaning.specs.Conflict.{entry}
 use Rattle.meaning.specs.Words.{tab}
-use Rattle.laws.proofs.Turns.{tab-next}
 use Rattle.conflict.specs.Heard.{either_way}
-use Rattle.conflict.proofs.Tables.{filled}
-use Rattle.conflict.proofs.Hearing.{no_row, own_row}
 use Rattle.conflict.proofs.either.Given as goal
 
 abbrev pub invariant-loop-y : goal.invariant-loop-y

@@ -1,12 +1,9 @@
 -- `conflict::heard` meets its contract. The invariant: the row is filled as far as the loop has come.
-use Prim.Native.Nat.{◌≤◌, ◌-◌}
 use mathlib.Core.Path.{◌≡◌, refl}
 use native.Mathlib.Omega.{arith}
-use borrow.Author.Rules.{rules}
-use lib.ListN.{length, take, length-set}
+use lib.ListN.{length, length-set}
 use Rattle.meaning.specs.Words.{tab}
 use Rattle.laws.proofs.Turns.{tab-next}
-use Rattle.conflict.specs.Heard.{heard_in}
 use Rattle.conflict.proofs.Tables.{filled}
 use Rattle.conflict.proofs.heard.Goals as goal
 

@@ -1,13 +1,9 @@
 -- `conflict::heard` meets its contract. The invariant: the row is filled as far as the loop has come.
 use Prim.Native.Nat.{◌≤◌, ◌-◌}
-use mathlib.Core.Path.{◌≡◌, refl}
-use native.Mathlib.Omega.{arith}
-use borrow.Author.Rules.{rules}
-use lib.ListN.{length, take, length-set}
+use mathlib.Core.Path.{◌≡◌}
+use lib.ListN.{length, take}
 use Rattle.meaning.specs.Words.{tab}
-use Rattle.laws.proofs.Turns.{tab-next}
 use Rattle.conflict.specs.Heard.{heard_in}
-use Rattle.conflict.proofs.Tables.{filled}
 use Rattle.conflict.proofs.heard.Given as goal
 
 abbrev pub invariant-loop-y : goal.invariant-loop-y

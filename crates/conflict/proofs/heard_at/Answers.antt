@@ -1,5 +1,4 @@
 -- `conflict::heard_at` meets its contract: a node that is no probe has an empty row, and a probe the row of its parent.
-use borrow.Author.Rules.{rules}
 use Rattle.conflict.proofs.Hearing.{none-heard, some-heard}
 use Rattle.conflict.proofs.heard_at.Goals as goal
 

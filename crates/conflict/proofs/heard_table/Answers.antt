@@ -1,12 +1,9 @@
 -- `conflict::heard_table` meets its contract. The invariant: the table is filled as far as the loop has come.
-use Prim.Native.Nat.{◌≤◌, ◌-◌}
 use mathlib.Core.Path.{◌≡◌, refl}
 use native.Mathlib.Omega.{arith}
-use borrow.Author.Rules.{rules}
-use lib.ListN.{length, take, length-set}
-use Rattle.meaning.specs.Words.{tab, places}
+use lib.ListN.{length, length-set}
+use Rattle.meaning.specs.Words.{tab}
 use Rattle.laws.proofs.Turns.{tab-next}
-use Rattle.conflict.specs.Heard.{heard_row}
 use Rattle.conflict.proofs.Tables.{filled}
 use Rattle.conflict.proofs.heard_table.Goals as goal
 

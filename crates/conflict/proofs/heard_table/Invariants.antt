@@ -1,13 +1,9 @@
 -- `conflict::heard_table` meets its contract. The invariant: the table is filled as far as the loop has come.
 use Prim.Native.Nat.{◌≤◌, ◌-◌}
-use mathlib.Core.Path.{◌≡◌, refl}
-use native.Mathlib.Omega.{arith}
-use borrow.Author.Rules.{rules}
-use lib.ListN.{length, take, length-set}
+use mathlib.Core.Path.{◌≡◌}
+use lib.ListN.{length, take}
 use Rattle.meaning.specs.Words.{tab, places}
-use Rattle.laws.proofs.Turns.{tab-next}
 use Rattle.conflict.specs.Heard.{heard_row}
-use Rattle.conflict.proofs.Tables.{filled}
 use Rattle.conflict.proofs.heard_table.Given as goal
 
 abbrev pub invariant-loop-x : goal.invariant-loop-x

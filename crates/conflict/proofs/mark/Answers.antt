@@ -1,7 +1,6 @@
 -- `conflict::mark` meets its contract: the two tests are those of a mark.
 use mathlib.Core.Path.{sym}
 use mathlib.Core.Logic.{inl, inr}
-use borrow.Author.Rules.{rules}
 use Rattle.conflict.proofs.Tables.{marked-in, marked-out}
 use Rattle.conflict.proofs.mark.Goals as goal
 

@@ -1,10 +1,6 @@
 -- `conflict::pair_table` meets its contract. The invariant: the table is made of the records passed.
-use Prim.Native.Nat.{◌≤◌, ◌-◌}
 use mathlib.Core.Path.{◌∙◌, ◌≡◌}
 use native.Mathlib.Omega.{arith}
-use borrow.Author.Rules.{rules}
-use Rattle.meaning.specs.Sheet.{interfere}
-use Rattle.conflict.specs.Marks.{rows_of}
 use Rattle.conflict.proofs.Tables.{no-marks, no_record, record-marked}
 use Rattle.conflict.proofs.pair_table.Goals as goal
 

@@ -1,11 +1,8 @@
 -- `lines::put_text` meets its contract. The invariant: the first i bytes are put. The measure is what is left of the bytes.
-use mathlib.Core.Path.{◌≡◌, refl}
-use Prim.Native.Nat.{◌+◌, ◌-◌, ◌≤◌}
-use lib.ListN.{length, take, length-set}
-use Rattle.lines.specs.Line.{Put}
+use mathlib.Core.Path.{refl}
+use lib.ListN.{length-set}
 use Rattle.lines.proofs.Putting.{put-start, put_next, put_all}
 use native.Mathlib.Omega.{arith}
-use borrow.Author.Rules.{rules}
 use Rattle.lines.proofs.put_text.Goals as goal
 
 pub loop-i-init : goal.loop-i-init

@@ -1,11 +1,8 @@
 -- `lines::put_text` meets its contract. The invariant: the first i bytes are put. The measure is what is left of the bytes.
-use mathlib.Core.Path.{◌≡◌, refl}
+use mathlib.Core.Path.{◌≡◌}
 use Prim.Native.Nat.{◌+◌, ◌-◌, ◌≤◌}
-use lib.ListN.{length, take, length-set}
+use lib.ListN.{length, take}
 use Rattle.lines.specs.Line.{Put}
-use Rattle.lines.proofs.Putting.{put-start, put_next, put_all}
-use native.Mathlib.Omega.{arith}
-use borrow.Author.Rules.{rules}
 use Rattle.lines.proofs.put_text.Given as goal
 
 abbrev pub invariant-loop-i : goal.invariant-loop-i

@@ -1,6 +1,5 @@
 -- `lines::put_words` meets its contract: where one of the two tests fails the bytes do not fit, and behind both they do.
 use native.Mathlib.Omega.{arith}
-use borrow.Author.Rules.{rules}
 use Rattle.lines.proofs.Putting.{put-short, put-fitting}
 use Rattle.lines.proofs.put_words.Goals as goal
 

@@ -1,11 +1,9 @@
 -- `slot::any_outside` meets its contract: none of the first k probes holds a packet.
 use mathlib.Core.Path.{sym}
-use Prim.Native.Nat.{◌+◌, ◌-◌}
+use Prim.Native.Nat.{◌+◌}
 use borrow.Author.Tests.{lt-ltb, le-ltb}
 use lib.ListN.{get_or}
-use Rattle.meaning.specs.Rounds.{holds}
-use Rattle.laws.specs.Few.{at_most63}
-use Rattle.slot.proofs.Looking.{Looking, looking-starts, looking-on, looking-found, looking-ends}
+use Rattle.slot.proofs.Looking.{looking-starts, looking-on, looking-found, looking-ends}
 use native.Mathlib.Omega.{arith}
 use borrow.Author.Rules.{rules}
 use Rattle.slot.proofs.any_outside.Goals as goal

@@ -3,7 +3,6 @@ use Prim.Native.Nat.{◌-◌}
 use lib.ListN.{get_or}
 use Rattle.slot.proofs.Within.{set-less, no_node, no-parent, no_packet, no_room, hops}
 use native.Mathlib.Omega.{arith}
-use borrow.Author.Rules.{rules}
 use Rattle.slot.proofs.hop.Goals as goal
 
 pub returns-then-from-ge65 : goal.returns-then-from-ge65

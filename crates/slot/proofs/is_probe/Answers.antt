@@ -1,7 +1,6 @@
 -- `slot::is_probe` meets its contract: the wrapped difference is below p for the probes and for no other byte.
 use Rattle.slot.proofs.Tests.{probe-wrapped}
 use native.Mathlib.Omega.{arith}
-use borrow.Author.Rules.{rules}
 use Rattle.slot.proofs.is_probe.Goals as goal
 
 pub returns : goal.returns

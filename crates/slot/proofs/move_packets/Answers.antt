@@ -1,10 +1,9 @@
 -- `slot::move_packets` meets its contract: a lone hop is all, and otherwise what is left from place i on, moved, is the whole slot moved.
-use mathlib.Core.Path.{◌≡◌, refl, sym, ap, ◌∙◌}
-use Prim.Native.Nat.{ℕ, ◌+◌, ◌-◌}
-use lib.ListN.{length, get_or, drop}
+use mathlib.Core.Path.{refl, sym, ap, ◌∙◌}
+use Prim.Native.Nat.{ℕ, ◌+◌}
+use lib.ListN.{get_or, drop}
 use Rattle.slot.specs.Move.{moved_within}
 use Rattle.slot.proofs.Within.{next-moves, none_moves, lone-moves}
-use borrow.Author.Rules.{rules}
 use Rattle.slot.proofs.move_packets.Goals as goal
 
 pub returns-then-slot-eq1 : goal.returns-then-slot-eq1

@@ -1,13 +1,10 @@
 -- `slot::no_packet` meets its contract: each sender before i holds a packet.
 use mathlib.Core.Path.{ap}
 use mathlib.Core.Bool.{not}
-use Prim.Native.Nat.{◌-◌}
 use borrow.Author.Tests.{lt-ltb, le-ltb}
-use lib.ListN.{length, get_or}
-use Rattle.meaning.specs.Judge.{no_packet}
-use Rattle.slot.proofs.Looking.{Looking, looking-starts, looking-on, looking-stops, looking-past}
+use lib.ListN.{get_or}
+use Rattle.slot.proofs.Looking.{looking-starts, looking-on, looking-stops, looking-past}
 use native.Mathlib.Omega.{arith}
-use borrow.Author.Rules.{rules}
 use Rattle.slot.proofs.no_packet.Goals as goal
 
 pub loop-i-init : goal.loop-i-init

@@ -1,7 +1,6 @@
 -- `slot::senders_at` meets its contract: one law for each place that it returns from.
 use Rattle.slot.proofs.Places.{senders-past, senders-short, senders-whole}
 use native.Mathlib.Omega.{arith}
-use borrow.Author.Rules.{rules}
 use Rattle.slot.proofs.senders_at.Goals as goal
 
 pub returns-then-end-at : goal.returns-then-end-at

@@ -1,17 +1,12 @@
 -- `slot::two_conflict` meets its contract: the outer loop has looked at each pair whose first is before i, the inner one at those of i whose second is
 -- before j; the label is left with the two found.
-use mathlib.Core.Path.{◌≡◌, ap₂, ◌∙◌}
-use mathlib.Core.Bool.{◌&&◌}
-use Prim.Native.Nat.{ℕ, ◌-◌, ◌<◌}
-use borrow.Author.Tests.{lt-ltb}
+use mathlib.Core.Path.{◌≡◌}
+use Prim.Native.Nat.{◌-◌, ◌<◌}
 use lib.ListN.{length}
 use Rattle.meaning.specs.Words.{some}
 use Rattle.meaning.specs.Conflict.{entry}
 use Rattle.meaning.specs.Judge.{conflict_behind}
-use Rattle.slot.proofs.Looking.{Looking, looking-starts, looking-on, looking-ends, looking-above}
-use Rattle.slot.proofs.Pairs.{two-stop, two_none}
-use native.Mathlib.Omega.{arith}
-use borrow.Author.Rules.{rules}
+use Rattle.slot.proofs.Looking.{Looking}
 use Rattle.slot.proofs.two_conflict.Given as goal
 
 abbrev pub invariant-loop-j : goal.invariant-loop-j

@@ -1,10 +1,8 @@
 -- `walk::hops` meets its contract. The invariant: the hops so far are the sum over the first k probes, each at most 255 times 255. The measure is
 -- what is left of p.
 use mathlib.Core.Path.{◌≡◌, refl, sym, ap₂, ◌∙◌}
-use Prim.Native.Nat.{◌+◌, ◌-◌, ◌*◌, ◌≤◌}
+use Prim.Native.Nat.{◌+◌}
 use native.Mathlib.Omega.{arith}
-use lib.ListN.{get_or}
-use borrow.Author.Rules.{rules}
 use Rattle.meaning.specs.Words.{sum}
 use Rattle.laws.proofs.Turns.{sum_one}
 use Rattle.walk.proofs.hops.Goals as goal
