@@ -1,14 +1,12 @@
 -- `walk::depth` meets its contract. The invariant: the deepest level so far is the most of the first k probes. The measure is what is left of p.
-use mathlib.Core.Logic.{⊎_elim}
 use mathlib.Core.Path.{◌≡◌, refl, ap, ◌∙◌}
-use Prim.Native.Nat.{ℕ, ◌+◌, ◌-◌, ◌≤◌}
+use Prim.Native.Nat.{ℕ}
 use native.Mathlib.Omega.{arith}
-use lib.ListN.{get_or}
-use borrow.Author.Rules.{rules}
 use Rattle.meaning.specs.declared.Level.{Level}
 use Rattle.meaning.specs.Words.{most}
 use Rattle.walk.proofs.Climbing.{most-larger, most-stays}
 use Rattle.walk.proofs.depth.Goals as goal
+use Rattle.walk.proofs.depth.Goals.{then-deepest-level, else-deepest-level}
 
 pub loop-k-init : goal.loop-k-init
 unfolding most
@@ -19,9 +17,10 @@ pub loop-k-preserved : goal.loop-k-preserved
 loop-k-preserved c =
     let turn = c.loop-k in
     let read = c.number_at-level.ensures in
-    ⊎_elim (λ w. (omega arith, w.1 ∙ most-larger _ _ _ _ turn.invariant.1 read w.0.taken))
-    (λ w. (omega arith, w.1 ∙ most-stays _ _ _ _ turn.invariant.1 read w.0.left))
-    c.if-deepest-level.branch
+    elim c.if-deepest-level.branch [
+      | then-deepest-level w ↦ (omega arith, w.deepest-is ∙ most-larger _ _ _ _ turn.invariant.1 read w.if-deepest-level.true)
+      | else-deepest-level w ↦ (omega arith, w.deepest-is ∙ most-stays _ _ _ _ turn.invariant.1 read w.if-deepest-level.false)
+    ]
 
 pub returns : goal.returns
 returns c =

@@ -1,13 +1,8 @@
 -- `walk::depth` meets its contract. The invariant: the deepest level so far is the most of the first k probes. The measure is what is left of p.
-use mathlib.Core.Logic.{⊎_elim}
-use mathlib.Core.Path.{◌≡◌, refl, ap, ◌∙◌}
-use Prim.Native.Nat.{ℕ, ◌+◌, ◌-◌, ◌≤◌}
-use native.Mathlib.Omega.{arith}
+use mathlib.Core.Path.{◌≡◌}
+use Prim.Native.Nat.{◌+◌, ◌-◌, ◌≤◌}
 use lib.ListN.{get_or}
-use borrow.Author.Rules.{rules}
-use Rattle.meaning.specs.declared.Level.{Level}
 use Rattle.meaning.specs.Words.{most}
-use Rattle.walk.proofs.Climbing.{most-larger, most-stays}
 use Rattle.walk.proofs.depth.Given as goal
 
 abbrev pub invariant-loop-k : goal.invariant-loop-k
