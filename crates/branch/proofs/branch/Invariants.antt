@@ -1,16 +1,11 @@
 -- `branch::branch` meets its contract. The invariant: so far it is the sum over the first k probes, each at most 255; one past the table adds
 -- nothing, so that it is never more than 63 of them have. The measure is what is left of p.
-use mathlib.Core.Path.{◌≡◌, refl, sym, ap₂, ◌∙◌}
-use mathlib.Core.Logic.{⊎_elim}
+use mathlib.Core.Path.{◌≡◌}
 use mathlib.Core.Bool.{cond}
 use Prim.Native.Nat.{◌+◌, ◌-◌, ◌*◌, ◌≤◌}
 use lib.ListN.{get_or}
 use Rattle.meaning.specs.Words.{sum}
 use Rattle.meaning.specs.Yard.{reaches}
-use Rattle.laws.proofs.Turns.{sum_one}
-use Rattle.branch.proofs.Walking.{sum_past}
-use native.Mathlib.Omega.{arith}
-use borrow.Author.Rules.{rules}
 use Rattle.branch.proofs.branch.Given as goal
 
 abbrev pub invariant-loop-k : goal.invariant-loop-k

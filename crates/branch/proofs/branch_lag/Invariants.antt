@@ -1,15 +1,11 @@
 -- `branch::branch_lag` meets its contract. The invariant: so far it is the most over the first k probes, each at most 255; one that is no byte brings no
 -- more than they. The measure is what is left of p.
-use mathlib.Core.Path.{◌≡◌, refl, ◌∙◌}
-use mathlib.Core.Logic.{⊎_elim}
+use mathlib.Core.Path.{◌≡◌}
 use mathlib.Core.Bool.{cond}
 use Prim.Native.Nat.{◌+◌, ◌-◌, ◌≤◌}
 use lib.ListN.{get_or}
 use Rattle.meaning.specs.Words.{most}
 use Rattle.meaning.specs.Yard.{reaches, lag_on}
-use Rattle.branch.proofs.Walking.{most-next, lag-past}
-use native.Mathlib.Omega.{arith}
-use borrow.Author.Rules.{rules}
 use Rattle.branch.proofs.branch_lag.Given as goal
 
 abbrev pub invariant-loop-k : goal.invariant-loop-k

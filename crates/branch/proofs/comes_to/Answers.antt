@@ -21,9 +21,8 @@ returns-then-next-node c =
 
 pub loop-left-preserved : goal.loop-left-preserved
 loop-left-preserved c =
-    let test = c in
-    let turn = test.loop-left in
-    comes-on _ _ turn.left turn.node _ _ test.loop-left-test.true test.if-node-end.false c.number_at-next.ensures turn.invariant
+    let turn = c.loop-left in
+    comes-on _ _ turn.left turn.node _ _ c.loop-left-test.true c.if-node-end.false c.number_at-next.ensures turn.invariant
 
 pub returns : goal.returns
 returns c =

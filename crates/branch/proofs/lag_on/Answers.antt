@@ -17,9 +17,8 @@ returns-then-node-end c =
 
 pub loop-left-preserved : goal.loop-left-preserved
 loop-left-preserved c =
-    let here = c in
-    let turn = here.loop-left in (
-      lag-next _ _ _ turn.left turn.lag turn.node _ _ _ _ here.loop-left-test.true here.if-node-end.false c.number_at-node.ensures
+    let turn = c.loop-left in (
+      lag-next _ _ _ turn.left turn.lag turn.node _ _ _ _ c.loop-left-test.true c.if-node-end.false c.number_at-node.ensures
           c.number_at.ensures
           c.less-lag.ensures
           turn.invariant.0,

@@ -1,16 +1,10 @@
 -- `branch::most_weight` meets its contract. The invariant: so far it is the most over the first k tops; one that is no byte weighs nothing.
 -- The measure is what is left of p.
-use mathlib.Core.Path.{◌≡◌, refl, ◌∙◌}
-use mathlib.Core.Logic.{⊎_elim}
+use mathlib.Core.Path.{◌≡◌}
 use Prim.Native.Nat.{◌+◌, ◌-◌, ◌≤◌}
-use lib.ListN.{length, get_or}
-use mir.Val.{Fits}
-use mir.Syntax.{w8}
-use Rattle.meaning.specs.Words.{places, most}
+use lib.ListN.{get_or}
+use Rattle.meaning.specs.Words.{most}
 use Rattle.branch.specs.Weight.{weight_of}
-use Rattle.branch.proofs.Walking.{most-next, most-past}
-use native.Mathlib.Omega.{arith}
-use borrow.Author.Rules.{rules}
 use Rattle.branch.proofs.most_weight.Given as goal
 
 abbrev pub invariant-loop-k : goal.invariant-loop-k

@@ -4,7 +4,6 @@ use Prim.Native.Nat.{ℕ, ◌+◌, ◌-◌, ◌*◌}
 use lib.ListN.{get_or}
 use Rattle.branch.specs.declared.Weighed.{Weighed}
 use Rattle.branch.specs.Weight.{weight_of}
-use borrow.Author.Rules.{rules}
 use Rattle.branch.proofs.weight.Goals as goal
 
 -- what is weighed decides what it is
@@ -14,14 +13,14 @@ as-weighed what it e p parent packets top r is = is ∙ ap (λ (w : Weighed). we
 
 pub returns-in-Packets : goal.returns-in-Packets
 returns-in-Packets c =
-    as-weighed _ _ c.enum_told-1.given.1 _ _ _ _ _ c.branch-all.ensures.0
+    as-weighed _ _ c.in-Packets.is _ _ _ _ _ c.branch-all.ensures.0
 
 pub returns-in-WithLag : goal.returns-in-WithLag
 returns-in-WithLag c =
-    as-weighed _ _ c.enum_told-in-WithLag-1.given.1 _ _ _ _ _ (ap₂ ◌+◌ c.branch-all.ensures.0 c.branch_lag.ensures.0)
+    as-weighed _ _ c.in-WithLag.is _ _ _ _ _ (ap₂ ◌+◌ c.branch-all.ensures.0 c.branch_lag.ensures.0)
 
 pub returns-in-AtTop : goal.returns-in-AtTop
 returns-in-AtTop c =
     let a = c.args in
-    as-weighed _ _ c.enum_told-in-AtTop-1.given.1 _ _ _ _ _
+    as-weighed _ _ c.in-AtTop.is _ _ _ _ _
     (c.hears_and_sends.ensures ∙ ap (λ (all : ℕ). 2 * all - get_or a.packets.now a.top.0 0) c.branch-all.ensures.0)
