@@ -31,6 +31,5 @@ overflow_add-held c =
 
 pub returns : goal.returns
 returns c =
-    let room = c in
-    hops _ _ _ room.if-from-ge65.false room.if-parent-ge65.false
-    (omega (arith, room.if-held-from-eq0.false)) room.if-held-up-ge65535.false
+    hops _ _ _ c.if-from-ge65.false c.if-parent-ge65.false
+    (omega (arith, c.if-held-from-eq0.false)) c.if-held-up-ge65535.false

@@ -8,9 +8,8 @@ use Rattle.slot.proofs.move_packets.Goals as goal
 
 pub returns-then-slot-eq1 : goal.returns-then-slot-eq1
 returns-then-slot-eq1 c =
-    let lone = c in
-    let a = lone.args in
-    c.hop.ensures ∙ lone-moves (λ u. get_or a.parents.now u 0) a.slot.now a.held.now lone.if-slot-eq1.true
+    let a = c.args in
+    c.hop.ensures ∙ lone-moves (λ u. get_or a.parents.now u 0) a.slot.now a.held.now c.if-slot-eq1.true
 
 pub loop-i-init : goal.loop-i-init
 loop-i-init c =

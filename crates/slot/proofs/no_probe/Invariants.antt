@@ -1,12 +1,10 @@
 -- `slot::no_probe` meets its contract: each sender before i is a probe.
-use mathlib.Core.Path.{◌≡◌, sym, ap, ◌∙◌}
-use mathlib.Core.Bool.{not}
+use mathlib.Core.Path.{◌≡◌}
 use Prim.Native.Nat.{◌-◌}
 use lib.ListN.{length}
 use Rattle.meaning.specs.Judge.{no_probe}
 use Rattle.laws.specs.Few.{at_most63}
-use Rattle.slot.proofs.Looking.{Looking, looking-starts, looking-on, looking-stops, looking-past}
-use borrow.Author.Rules.{rules}
+use Rattle.slot.proofs.Looking.{Looking}
 use Rattle.slot.proofs.no_probe.Given as goal
 
 abbrev pub invariant-loop-i : goal.invariant-loop-i

@@ -1,11 +1,8 @@
 -- `slot::wide` meets its contract: before place i the packets are copied.
-use mathlib.Core.Path.{◌≡◌, refl, ◌∙◌, subst}
-use Prim.Native.Nat.{ℕ, ◌-◌, ◌≤◌}
-use lib.ListN.{length, get_or, take, length-set}
+use mathlib.Core.Path.{◌≡◌}
+use Prim.Native.Nat.{◌-◌, ◌≤◌}
+use lib.ListN.{length, get_or, take}
 use Rattle.meaning.specs.Words.{tab}
-use Rattle.laws.proofs.Turns.{tab-next, tab-full, tab-of}
-use native.Mathlib.Omega.{arith}
-use borrow.Author.Rules.{rules}
 use Rattle.slot.proofs.wide.Given as goal
 
 abbrev pub invariant-loop-i : goal.invariant-loop-i
