@@ -53,8 +53,8 @@ module _ (p : ℕ) {few : ℕ} (is : few ≡ at_most63 p) {table : List (List Bo
 
   module _ (e : any ≡ true) where
     -- what the writer asks for
-    pub may_write : {room : ℕ} → 64 ≤ room → (few ≤ 63) × ((length chosen ≡ places) × ((blocked ≡ blocked_by (entry table) chosen) × (64 ≤ room)))
-    may_write h = (omega (arith, is), (ap length (choice.chose e) ∙ owners-long few (entry table) (by_node own) s (holds held), (choice.knows e, h)))
+    pub may_write : {room : ℕ} → 64 ≤ room → (few ≤ 63) × (length chosen ≡ places) × (blocked ≡ blocked_by (entry table) chosen) × (64 ≤ room)
+    may_write h = (omega (arith, is), ap length (choice.chose e) ∙ owners-long few (entry table) (by_node own) s (holds held), choice.knows e, h)
 
     -- those that send
     abbrev all : List ℕ

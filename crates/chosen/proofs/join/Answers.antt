@@ -1,6 +1,6 @@
 -- `chosen::join` meets its contract: the first k probes have had their turn, and `blocked` is what those chosen conflict with.
 use mathlib.Core.Path.{◌≡◌, ap, ◌∙◌, subst}
-use Prim.Native.Nat.{ℕ, ◌-◌, ◌≤◌}
+use Prim.Native.Nat.{ℕ}
 use lib.ListN.{length}
 use Rattle.meaning.specs.Conflict.{entry}
 use Rattle.laws.proofs.Joining.{joined-long}
@@ -12,13 +12,12 @@ use Rattle.chosen.proofs.join.Goals as goal
 
 pub loop-k-init : goal.loop-k-init
 loop-k-init c =
-    (search rules, joining-start _ _ _ _ c.requires.long.1)
+    (search rules, joining-start _ _ _ _ c.requires.known)
 
 pub consider-requires : goal.consider-requires
 consider-requires c =
-    let all = let start = c in
     let now = c.loop-k.invariant.1 in
-    (search rules, (ap length now.chose ∙ joined-long _ _ _ start.args.chosen.now ∙ start.requires.long.0, now.knows)) in record { node = all.0; long = all.1; known = all.2 }
+    record { node = search rules; long = ap length now.chose ∙ joined-long _ _ _ c.args.chosen.now ∙ c.requires.long; known = now.knows }
 
 pub loop-k-preserved : goal.loop-k-preserved
 loop-k-preserved c =

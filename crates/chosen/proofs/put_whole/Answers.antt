@@ -1,18 +1,18 @@
 -- `chosen::put_whole` meets its contract: where the bytes fit, the first i of them are copied.
 use mathlib.Core.Path.{refl, sym, ap}
-use Prim.Native.Nat.{◌-◌}
 use lib.ListN.{length}
 use Rattle.meaning.specs.Plan.{front}
-use Rattle.chosen.proofs.Writing.{Copying, copying-long, copying-next, copied, whole-short}
+use Rattle.chosen.proofs.Writing.{copying-long, copying-next, copied, whole-short}
 use native.Mathlib.Omega.{arith}
-use borrow.Author.Rules.{rules}
 use Rattle.chosen.proofs.put_whole.Goals as goal
 
-pub returns-then-rest-bytes : goal.returns-then-rest-bytes
-returns-then-rest-bytes c =
-    let all = let a = c.args in
-    let none = whole-short a.rest.now a.bytes.now c.if-rest-bytes.true in
-    (ap length (sym none), ap (front a.rest.now) (sym none)) in record { answer = all.0; rest = all.1 }
+pub returns-then-rest-bytes-clause-answer : goal.returns-then-rest-bytes-clause-answer
+returns-then-rest-bytes-clause-answer c =
+    ap length (sym (whole-short c.args.rest.now c.args.bytes.now c.if-rest-bytes.true))
+
+pub returns-then-rest-bytes-clause-rest : goal.returns-then-rest-bytes-clause-rest
+returns-then-rest-bytes-clause-rest c =
+    ap (front c.args.rest.now) (sym (whole-short c.args.rest.now c.args.bytes.now c.if-rest-bytes.true))
 
 pub loop-i-init : goal.loop-i-init
 loop-i-init c =
@@ -33,4 +33,6 @@ shape_of-rest c =
 
 pub returns : goal.returns
 returns c =
-    let all = let l = c.loop-i in copied _ _ l.rest l.i l.invariant c.loop-i-test.false in record { answer = all.0; rest = all.1 }
+    let l = c.loop-i in
+    let all = copied _ _ l.rest l.i l.invariant c.loop-i-test.false in
+    record { answer = all.0; rest = all.1 }

@@ -1,11 +1,7 @@
 -- `chosen::put_whole` meets its contract: where the bytes fit, the first i of them are copied.
-use mathlib.Core.Path.{refl, sym, ap}
 use Prim.Native.Nat.{◌-◌}
 use lib.ListN.{length}
-use Rattle.meaning.specs.Plan.{front}
-use Rattle.chosen.proofs.Writing.{Copying, copying-long, copying-next, copied, whole-short}
-use native.Mathlib.Omega.{arith}
-use borrow.Author.Rules.{rules}
+use Rattle.chosen.proofs.Writing.{Copying}
 use Rattle.chosen.proofs.put_whole.Given as goal
 
 abbrev pub invariant-loop-i : goal.invariant-loop-i

@@ -2,23 +2,21 @@
 use mathlib.Core.Path.{◌≡◌, refl, ap, ◌∙◌, subst}
 use mathlib.Core.Bool.{Bool, false}
 use mathlib.Core.List.{[]}
-use Prim.Native.Nat.{ℕ, ◌+◌, ◌-◌, ◌<◌}
+use Prim.Native.Nat.{ℕ, ◌+◌, ◌<◌}
 use lib.ListN.{length, get_or, set, length-set}
 use Rattle.meaning.specs.Conflict.{entry}
 use Rattle.meaning.specs.Rounds.{holds, joined}
 use Rattle.laws.proofs.Turns.{length-tab}
-use Rattle.chosen.proofs.Free.{free_by, free-start, free-says, free-put, next-free}
+use Rattle.chosen.proofs.Free.{free-start, free-says, free-put, next-free}
 use Rattle.chosen.proofs.Writing.{Writing, writing_start, writing-put, written, fewer, long}
 use native.Mathlib.Omega.{arith}
-use borrow.Author.Rules.{rules}
 use Rattle.chosen.proofs.write_senders.Goals as goal
 
 pub loop-k-init : goal.loop-k-init
 loop-k-init c =
-    let start = c in
-    let a = start.args in (
-      writing_start _ a.p a.rest.now (omega (arith, start.requires.small, start.requires.long.1.1)),
-      free-start (entry a.table.now) (holds a.held.now) a.owners.now start.requires.long.0 a.blocked.now _ start.requires.long.1.0
+    let a = c.args in (
+      writing_start _ a.p a.rest.now (omega (arith, c.requires.small, c.requires.room)),
+      free-start (entry a.table.now) (holds a.held.now) a.owners.now c.requires.long a.blocked.now _ c.requires.known
           c.free_to_send-free.ensures,
     )
 
@@ -38,28 +36,25 @@ shut-requires c =
 
 pub loop-k-preserved-then-k-p : goal.loop-k-preserved-then-k-p
 loop-k-preserved-then-k-p c =
-    let found = c in
-    let l = found.loop-k in
-    let start = found in
-    let a = start.args in
-    let next = found.next_free-k.ensures in
-    let k : ℕ = found.next_free-k.result in
+    let l = c.loop-k in
+    let a = c.args in
+    let next = c.next_free-k.ensures in
+    let k : ℕ = c.next_free-k.result in
     let h : k < a.p = c.if-k-p.true in
-    let now = next-free (entry a.table.now) (holds a.held.now) a.owners.now start.requires.long.0 a.p start.requires.small _ l.rest l.free l.n
+    let now = next-free (entry a.table.now) (holds a.held.now) a.owners.now c.requires.long a.p c.requires.small _ l.rest l.free l.n
     l.k k next l.invariant in
-    let small : k + 2 < 65 = omega (arith, start.requires.small) in (
+    let small : k + 2 < 65 = omega (arith, c.requires.small) in (
       writing-put _ a.p _ l.rest l.n k now.0 h
-          (free-says (entry a.table.now) (holds a.held.now) a.owners.now start.requires.long.0 k small l.free now.1 a.p h ∙ next.found h),
-      free-put (entry a.table.now) (holds a.held.now) a.owners.now start.requires.long.0 k small l.free now.1 (next.found h)
+          (free-says (entry a.table.now) (holds a.held.now) a.owners.now c.requires.long k small l.free now.1 a.p h ∙ next.found h),
+      free-put (entry a.table.now) (holds a.held.now) a.owners.now c.requires.long k small l.free now.1 (next.found h)
           (get_or a.table.now (k + 2) []) _ (λ v. refl) c.shut.ensures,
     )
 
 pub loop-k-preserved : goal.loop-k-preserved
 loop-k-preserved c =
     let l = c.loop-k in
-    let start = c in
-    let a = start.args in
-    next-free (entry a.table.now) (holds a.held.now) a.owners.now start.requires.long.0 a.p start.requires.small _ l.rest l.free l.n
+    let a = c.args in
+    next-free (entry a.table.now) (holds a.held.now) a.owners.now c.requires.long a.p c.requires.small _ l.rest l.free l.n
     l.k _ c.next_free-k.ensures l.invariant
 
 pub overflow_cast-rest : goal.overflow_cast-rest
@@ -84,8 +79,7 @@ shape_of-rest c =
 
 pub returns : goal.returns
 returns c =
-    let start = c in
-    let a = start.args in
+    let a = c.args in
     let l = c.loop-k in
     let test : ℕ → Bool = λ v. get_or (joined a.p (entry a.table.now) (holds a.held.now) a.owners.now) v false in
     let all : l.k ≡ a.p = omega (arith, l.invariant.0.within) in
