@@ -1,9 +1,6 @@
 -- `digits::number_said` meets its contract: byte by byte, and a number that is capped in between says the same.
-use Prim.Native.Nat.{◌-◌, ◌≤◌}
-use lib.ListN.{length}
-use Rattle.digits.proofs.Digits.{Reading, reading-start, reading-next, reading-whole}
+use Rattle.digits.proofs.Digits.{reading-start, reading-next, reading-whole}
 use native.Mathlib.Omega.{arith}
-use borrow.Author.Rules.{rules}
 use Rattle.digits.proofs.number_said.Goals as goal
 
 pub loop-i-init : goal.loop-i-init
@@ -12,13 +9,11 @@ loop-i-init c =
 
 pub loop-i-preserved : goal.loop-i-preserved
 loop-i-preserved c =
-    let l = c in (
+    let turn = c.loop-i in (
       omega arith,
-      reading-next l.args.word.now l.loop-i.i l.loop-i l.loop-i.invariant.1 (omega arith) c.with_digit-before.result
-          c.with_digit-before.ensures,
+      reading-next c.args.word.now turn.i turn.before turn.invariant.1 (omega arith) c.with_digit-before.result c.with_digit-before.ensures,
     )
 
 pub returns : goal.returns
 returns c =
-    let l = c in
-    reading-whole l.args.word.now l.loop-i.i l.loop-i l.loop-i.invariant.1 (omega arith)
+    reading-whole c.args.word.now c.loop-i.i c.loop-i.before c.loop-i.invariant.1 (omega arith)

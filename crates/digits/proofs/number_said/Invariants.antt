@@ -1,9 +1,7 @@
 -- `digits::number_said` meets its contract: byte by byte, and a number that is capped in between says the same.
 use Prim.Native.Nat.{◌-◌, ◌≤◌}
 use lib.ListN.{length}
-use Rattle.digits.proofs.Digits.{Reading, reading-start, reading-next, reading-whole}
-use native.Mathlib.Omega.{arith}
-use borrow.Author.Rules.{rules}
+use Rattle.digits.proofs.Digits.{Reading}
 use Rattle.digits.proofs.number_said.Given as goal
 
 abbrev pub invariant-loop-i : goal.invariant-loop-i

@@ -1,11 +1,7 @@
 -- `digits::others_stand` meets its contract: byte by byte, and a byte that is no digit ends it.
 use Prim.Native.Nat.{◌-◌, ◌≤◌}
-use mathlib.Core.Path.{refl, sym, ap, ◌∙◌}
-use mathlib.Core.Bool.{not}
 use lib.ListN.{length}
-use Rattle.digits.proofs.Digits.{OnlyDigits, other-stands, digit-stands, no-other-stands}
-use native.Mathlib.Omega.{arith}
-use borrow.Author.Rules.{rules}
+use Rattle.digits.proofs.Digits.{OnlyDigits}
 use Rattle.digits.proofs.others_stand.Given as goal
 
 abbrev pub invariant-loop-i : goal.invariant-loop-i
