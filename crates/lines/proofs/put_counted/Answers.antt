@@ -3,7 +3,6 @@ use Prim.Native.Nat.{◌+◌, ◌≤◌}
 use mathlib.Core.List.{◌++◌}
 use lib.ListN.{length, length-append}
 use native.Mathlib.Omega.{arith}
-use borrow.Author.Rules.{rules}
 use Rattle.meaning.specs.Lister.{decimal}
 use Rattle.lines.proofs.Putting.{put-short, put-fitting}
 use Rattle.lines.proofs.put_counted.Goals as goal
@@ -16,27 +15,19 @@ returns-then-out-at c =
 pub returns-then-room-words : goal.returns-then-room-words
 returns-then-room-words c =
     let a = c.args in
-    put-short a.out.now a.at (a.words.now ++ decimal 5 a.n)
-    (omega (arith, c.if-room-words.true, length-append a.words.now (decimal 5 a.n)))
+    put-short a.out.now a.at (a.words.now ++ decimal 5 a.n) (omega (arith, length-append a.words.now (decimal 5 a.n)))
 
 pub returns-then-room-words-2 : goal.returns-then-room-words-2
 returns-then-room-words-2 c =
     let a = c.args in
     put-short a.out.now a.at (a.words.now ++ decimal 5 a.n)
-    (omega (arith, c.if-room-words-2.true, c.digits.ensures.count, length-append a.words.now (decimal 5 a.n)))
-
--- behind the three tests there is room
-room : (c : tie.Else3)
-    → let a = c.before.before.before.before.before.before.args in a.at + length (a.words.now ++ decimal 5 a.n) ≤ length a.out.now
-room c =
-    let a = c.before.before.before.before.before.before.args in
-    let words = c.before.before in
-    omega (arith, c.if3.false, c.before.digits.ensures.0, words.if2.false, words.before.if1.false, length-append a.words.now (decimal 5 a.n))
+    (omega (arith, c.digits.ensures.count, length-append a.words.now (decimal 5 a.n)))
 
 pub put_said-requires : goal.put_said-requires
-put_said-requires c =
-    room c
+put_said-requires c = omega (arith, c.digits.ensures.count, length-append c.args.words.now (decimal 5 c.args.n))
 
 pub returns : goal.returns
 returns c =
-    put-fitting (room c) c.put_said.ensures
+    let a = c.args in
+    let room : a.at + length (a.words.now ++ decimal 5 a.n) ≤ length a.out.now = omega (arith, c.digits.ensures.count, length-append a.words.now (decimal 5 a.n)) in
+    put-fitting room c.put_said.ensures

@@ -3,7 +3,6 @@ use lib.ListN.{length-append}
 use Rattle.meaning.specs.Lister.{decimal}
 use Rattle.lines.proofs.Putting.{put-more, put-long}
 use native.Mathlib.Omega.{arith}
-use borrow.Author.Rules.{rules}
 use Rattle.lines.proofs.put_said.Goals as goal
 
 pub put_text-next-requires : goal.put_text-next-requires

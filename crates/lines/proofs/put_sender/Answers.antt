@@ -2,7 +2,6 @@
 use Rattle.meaning.specs.Lister.{text}
 use Rattle.lines.proofs.Lined.{sender-length}
 use native.Mathlib.Omega.{arith}
-use borrow.Author.Rules.{rules}
 use Rattle.lines.proofs.put_sender.Goals as goal
 
 pub put_said-requires : goal.put_said-requires

@@ -1,13 +1,8 @@
 -- `lines::put_senders` meets its contract. The invariant: the first i senders are put. The measure is what is left of the senders.
-use mathlib.Core.Path.{◌≡◌, refl, ◌∙◌}
-use Prim.Native.Nat.{◌-◌, ◌≤◌}
-use lib.ListN.{length, take}
-use Rattle.meaning.specs.Lister.{senders_text}
-use Rattle.lines.specs.Line.{Put}
+use mathlib.Core.Path.{refl, ◌∙◌}
 use Rattle.lines.proofs.Putting.{put-long}
 use Rattle.lines.proofs.SendersText.{senders-start, senders-room, senders-put, senders-all}
 use native.Mathlib.Omega.{arith}
-use borrow.Author.Rules.{rules}
 use Rattle.lines.proofs.put_senders.Goals as goal
 
 pub loop-i-init : goal.loop-i-init

@@ -1,13 +1,9 @@
 -- `lines::put_senders` meets its contract. The invariant: the first i senders are put. The measure is what is left of the senders.
-use mathlib.Core.Path.{◌≡◌, refl, ◌∙◌}
+use mathlib.Core.Path.{◌≡◌}
 use Prim.Native.Nat.{◌-◌, ◌≤◌}
 use lib.ListN.{length, take}
 use Rattle.meaning.specs.Lister.{senders_text}
 use Rattle.lines.specs.Line.{Put}
-use Rattle.lines.proofs.Putting.{put-long}
-use Rattle.lines.proofs.SendersText.{senders-start, senders-room, senders-put, senders-all}
-use native.Mathlib.Omega.{arith}
-use borrow.Author.Rules.{rules}
 use Rattle.lines.proofs.put_senders.Given as goal
 
 abbrev pub invariant-loop-i : goal.invariant-loop-i

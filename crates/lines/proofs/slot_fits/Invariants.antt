@@ -1,9 +1,7 @@
 -- `lines::slot_fits` meets its contract. The invariant: what is left of the room behind the first i senders. The measure is what is left of the senders.
 use Prim.Native.Nat.{◌-◌, ◌≤◌}
 use lib.ListN.{length}
-use Rattle.lines.proofs.SendersText.{RoomLeft, fits-never, fits-start, fits-short, fits_next, fits_all}
-use native.Mathlib.Omega.{arith}
-use borrow.Author.Rules.{rules}
+use Rattle.lines.proofs.SendersText.{RoomLeft}
 use Rattle.lines.proofs.slot_fits.Given as goal
 
 abbrev pub invariant-loop-i : goal.invariant-loop-i

@@ -1,65 +1,53 @@
 -- `lines::slot_line` meets its contract: the parts of the line are put one behind the other, where the buffer has room for all of them.
-use Prim.Native.Nat.{◌+◌, ◌≤◌}
+use mathlib.Core.Path.{ap}
+use mathlib.Core.Bool.{not}
+use native.Mathlib.Omega.{arith}
 use lib.ListN.{length}
-use Rattle.meaning.specs.Lister.{decimal, text, senders_text, slot_line}
+use Rattle.meaning.specs.Lister.{text, slot_line}
 use Rattle.lines.proofs.Putting.{put-more, put-long}
 use Rattle.lines.proofs.Lined.{line-short, line-put, slot-length}
 use Rattle.lines.proofs.SendersText.{slot-short, slot-room}
-use native.Mathlib.Omega.{arith}
-use borrow.Author.Rules.{rules}
 use Rattle.lines.proofs.slot_line.Goals as goal
-
--- behind the test there is room for the parts of the line
-room : (c : tie.Else1)
-    → let a = c.before.before.before.before.args in
-    2 + length (decimal 5 a.number.0) + length (senders_text a.senders.now) ≤ length a.out.now
-room c =
-    let a = c.before.before.before.before.args in
-    omega (
-      arith,
-      slot-room a.number.0 a.senders.now (length a.out.now) _ c.before.slot-fits.ensures c.if1.false,
-      slot-length a.number.0 a.senders.now,
-    )
 
 pub returns-then-not-slot_fits : goal.returns-then-not-slot_fits
 returns-then-not-slot_fits c =
-    let all = let a = c.args in
-    line-short _ (slot_line a.number.0 a.senders.now) (slot-short _ _ _ _ c.slot_fits.ensures c.if-not-slot_fits.true) in record { answer = all.0; buffer = all.1 }
+    let a = c.args in
+    let untouched = line-short _ (slot_line a.number.0 a.senders.now) (slot-short _ _ _ _ c.slot_fits.ensures (ap not c.if-not-slot_fits.true)) in
+    record { answer = untouched.0; buffer = untouched.1 }
 
 pub put_digits-at-requires : goal.put_digits-at-requires
 put_digits-at-requires c =
-    omega (arith, room c)
+    let a = c.args in
+    let room = slot-room a.number.0 a.senders.now (length a.out.now) _ c.slot_fits.ensures (ap not c.if-not-slot_fits.false) in
+    omega (arith, room, slot-length a.number.0 a.senders.now)
 
 pub put_text-colon-requires : goal.put_text-colon-requires
 put_text-colon-requires c =
-    let number = c in
-    let put = number.put_digits-at.ensures in
-    omega (arith, room number, put.ends, put-long put)
+    let a = c.args in
+    let room = slot-room a.number.0 a.senders.now (length a.out.now) _ c.slot_fits.ensures (ap not c.if-not-slot_fits.false) in
+    let number = c.put_digits-at.ensures in
+    omega (arith, room, slot-length a.number.0 a.senders.now, number.ends, put-long number)
 
 pub put_senders-end-requires : goal.put_senders-end-requires
 put_senders-end-requires c =
-    let colon = c in
-    let number = colon in
-    let put = number.put_digits-at.ensures in
-    let next = colon.put_text-colon.ensures in
-    omega (arith, room number, put.ends, put-long put, next.ends, put-long next)
+    let a = c.args in
+    let room = slot-room a.number.0 a.senders.now (length a.out.now) _ c.slot_fits.ensures (ap not c.if-not-slot_fits.false) in
+    let number = c.put_digits-at.ensures in
+    let colon = c.put_text-colon.ensures in
+    omega (arith, room, slot-length a.number.0 a.senders.now, number.ends, put-long number, colon.ends, put-long colon)
 
 pub put_text-requires : goal.put_text-requires
 put_text-requires c =
-    let senders = c in
-    let colon = senders in
-    let number = colon in
-    let put = number.put_digits-at.ensures in
-    let next = colon.put_text-colon.ensures in
-    let last = senders.put_senders-end.ensures in
-    omega (arith, room number, put.ends, put-long put, next.ends, put-long next, last.ends, put-long last)
+    let a = c.args in
+    let room = slot-room a.number.0 a.senders.now (length a.out.now) _ c.slot_fits.ensures (ap not c.if-not-slot_fits.false) in
+    let number = c.put_digits-at.ensures in
+    let colon = c.put_text-colon.ensures in
+    let senders = c.put_senders-end.ensures in
+    omega (arith, room, slot-length a.number.0 a.senders.now, number.ends, put-long number, colon.ends, put-long colon, senders.ends, put-long senders)
 
 pub returns : goal.returns
 unfolding text slot_line
 returns c =
-    let all = let senders = c in
-    let colon = senders in
-    let number = colon in
-    let test = number in
-    let put = put-more (put-more number.put_digits-at.ensures colon.put_text-colon.ensures) senders.put_senders-end.ensures in
-    line-put (slot-room _ _ _ _ test.slot_fits.ensures test.if-not-slot_fits.false) (put-more put c.put_text.ensures) in record { answer = all.0; buffer = all.1 }
+    let parts = put-more (put-more (put-more c.put_digits-at.ensures c.put_text-colon.ensures) c.put_senders-end.ensures) c.put_text.ensures in
+    let line = line-put (slot-room _ _ _ _ c.slot_fits.ensures (ap not c.if-not-slot_fits.false)) parts in
+    record { answer = line.0; buffer = line.1 }
