@@ -1,15 +1,14 @@
 -- `conflict::mark_levels` meets its contract. The invariant: the marks of the probes passed are made.
-use Prim.Native.Nat.{◌≤◌, ◌-◌}
-use mathlib.Core.Logic.{⊎_elim}
 use mathlib.Core.Path.{refl, ◌∙◌, ◌≡◌}
 use mathlib.Core.Bool.{false}
 use native.Mathlib.Omega.{arith}
 use borrow.Author.Rules.{rules}
-use lib.ListN.{length, get_or-eq_default, get_or}
+use lib.ListN.{length, get_or-eq_default}
 use Rattle.meaning.specs.Words.{for_each}
 use Rattle.conflict.specs.Marks.{levels_marked}
 use Rattle.conflict.proofs.Tables.{turn-other, turn-own, turn-none}
 use Rattle.conflict.proofs.mark_levels.Goals as goal
+use Rattle.conflict.proofs.mark_levels.Goals.{then-y-lt65+then-row-y+then-a-b, then-y-lt65+then-row-y+else-a-b, then-y-lt65+else-row-y, else-y-lt65}
 
 pub loop-k-init : goal.loop-k-init
 unfolding levels_marked for_each
@@ -18,15 +17,16 @@ loop-k-init c =
 
 pub loop-k-preserved : goal.loop-k-preserved
 loop-k-preserved c =
-    let s = c in
     let now = c.loop-k.invariant.1 in
-    let long : length s.args.t4 ≡ 65 = search rules in (
+    let long : length c.args.row ≡ 65 = search rules in (
       omega arith,
-      ⊎_elim (λ w. w.6 ∙ w.5.ensures ∙ turn-other _ _ _ _ _ _ now w.1.taken w.3.taken)
-          (⊎_elim (λ w. w.4 ∙ turn-own _ _ _ _ _ _ now w.1.taken w.3.left)
-          (⊎_elim (λ w. w.2 ∙ turn-none _ _ _ _ _ _ now w.1.left)
-          (λ w. w.1 ∙ turn-none _ _ _ _ _ _ now (get_or-eq_default s.args.t4 false (omega arith)))))
-          c.if-y-lt65.branch,
+      elim c.if-y-lt65.branch [
+        | then-y-lt65+then-row-y+then-a-b w ↦
+            w.t-is ∙ w.mark.ensures ∙ turn-other _ _ _ _ _ _ now w.if-row-y.true w.if-a-b.true
+        | then-y-lt65+then-row-y+else-a-b w ↦ w.t-is ∙ turn-own _ _ _ _ _ _ now w.if-row-y.true w.if-a-b.false
+        | then-y-lt65+else-row-y w ↦ w.t-is ∙ turn-none _ _ _ _ _ _ now w.if-row-y.false
+        | else-y-lt65 w ↦ w.t-is ∙ turn-none _ _ _ _ _ _ now (get_or-eq_default c.args.row false (omega arith))
+      ],
     )
 
 pub returns : goal.returns

@@ -1,14 +1,9 @@
 -- `conflict::mark_levels` meets its contract. The invariant: the marks of the probes passed are made.
 use Prim.Native.Nat.{◌≤◌, ◌-◌}
-use mathlib.Core.Logic.{⊎_elim}
-use mathlib.Core.Path.{refl, ◌∙◌, ◌≡◌}
+use mathlib.Core.Path.{◌≡◌}
 use mathlib.Core.Bool.{false}
-use native.Mathlib.Omega.{arith}
-use borrow.Author.Rules.{rules}
-use lib.ListN.{length, get_or-eq_default, get_or}
-use Rattle.meaning.specs.Words.{for_each}
+use lib.ListN.{get_or}
 use Rattle.conflict.specs.Marks.{levels_marked}
-use Rattle.conflict.proofs.Tables.{turn-other, turn-own, turn-none}
 use Rattle.conflict.proofs.mark_levels.Given as goal
 
 abbrev pub invariant-loop-k : goal.invariant-loop-k

@@ -1,16 +1,13 @@
 -- `conflict::table` meets its contract. The invariant: the table is filled as far as the loop has come.
-use Prim.Native.Nat.{◌≤◌, ◌-◌}
 use mathlib.Core.Path.{◌≡◌, refl, ◌∙◌}
 use native.Mathlib.Omega.{arith}
 use borrow.Author.Rules.{rules}
 use mir.Val.{Fits}
 use mir.Syntax.{w8}
-use lib.ListN.{length, get_or, take, length-set}
+use lib.ListN.{length, get_or, length-set}
 use Rattle.meaning.specs.Sheet.{interfere}
-use Rattle.meaning.specs.Conflict.{entry}
-use Rattle.meaning.specs.Words.{tab, places}
+use Rattle.meaning.specs.Words.{tab}
 use Rattle.laws.proofs.Turns.{tab-next}
-use Rattle.conflict.specs.Heard.{of_probe, either_way}
 use Rattle.conflict.proofs.Hearing.{conflict-rows}
 use Rattle.conflict.proofs.Tables.{filled}
 use Rattle.conflict.proofs.table.Goals as goal
@@ -32,9 +29,8 @@ loop-x-preserved c =
 pub returns : goal.returns
 returns c =
     let h = c.loop-x in
-    let start = c in
     filled h.t h.x 65 _ h.invariant.1 h.invariant.2 c.loop-x-test.false h.invariant.0
-    ∙ conflict-rows start.args.p start.args.t2 (interfere start.args.records.now start.args.q) _
+    ∙ conflict-rows c.args.p c.args.parents (interfere c.args.records.now c.args.q) _
     c.pair_table-pairs.ensures
-    (λ v _. let byte : Fits w8 (get_or start.args.t2 v 0) = search rules in byte.fits)
+    (λ v _. let byte : Fits w8 (get_or c.args.parents v 0) = search rules in byte.fits)
     _ _ c.probes-probes.ensures c.heard_table-heard.ensures

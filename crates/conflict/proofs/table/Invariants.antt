@@ -1,18 +1,10 @@
 -- `conflict::table` meets its contract. The invariant: the table is filled as far as the loop has come.
 use Prim.Native.Nat.{◌≤◌, ◌-◌}
-use mathlib.Core.Path.{◌≡◌, refl, ◌∙◌}
-use native.Mathlib.Omega.{arith}
-use borrow.Author.Rules.{rules}
-use mir.Val.{Fits}
-use mir.Syntax.{w8}
-use lib.ListN.{length, get_or, take, length-set}
-use Rattle.meaning.specs.Sheet.{interfere}
+use mathlib.Core.Path.{◌≡◌}
+use lib.ListN.{length, take}
 use Rattle.meaning.specs.Conflict.{entry}
 use Rattle.meaning.specs.Words.{tab, places}
-use Rattle.laws.proofs.Turns.{tab-next}
 use Rattle.conflict.specs.Heard.{of_probe, either_way}
-use Rattle.conflict.proofs.Hearing.{conflict-rows}
-use Rattle.conflict.proofs.Tables.{filled}
 use Rattle.conflict.proofs.table.Given as goal
 
 abbrev pub invariant-loop-x : goal.invariant-loop-x
