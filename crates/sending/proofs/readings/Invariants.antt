@@ -1,0 +1,15 @@
+-- `sending::readings` meets its contract: before place i each probe has its reading, and no other node has one.
+use mathlib.Core.Path.{refl, ap, ◌∙◌}
+use mathlib.Core.Bool.{cond, ◌&&◌}
+use Prim.Native.Nat.{ℕ, ◌+◌, ◌-◌}
+use lib.Dec.{leb}
+use Rattle.meaning.specs.Words.{tab, places}
+use Rattle.laws.proofs.Lists.{Becoming, becoming-start, becoming-next, becoming-whole}
+use borrow.Author.Rules.{rules}
+use Rattle.sending.proofs.readings.Given as goal
+
+abbrev pub invariant-loop-i : goal.invariant-loop-i
+invariant-loop-i l = Becoming 65 l.i (λ v. cond (leb 2 v && leb v l.last) 1 0) l.initial.held l.held
+
+abbrev pub decreases-loop-i : goal.decreases-loop-i
+decreases-loop-i l = 65 - l.i

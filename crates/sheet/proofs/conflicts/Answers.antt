@@ -1,0 +1,7 @@
+-- `sheet::conflicts` meets its contract: the table of the pairs that stand in the sheet.
+use borrow.Author.Rules.{rules}
+use Rattle.sheet.proofs.conflicts.Goals as goal
+
+pub returns : goal.returns
+returns c =
+    rw (← c.pair_records.ensures, ← c.pair_count.ensures) c.table.ensures

@@ -1,0 +1,14 @@
+-- `waking::slots_length` meets its contract. The invariant: the bytes of the first i slots are counted. The measure is what is left of the slots.
+use mathlib.Core.Path.{◌≡◌, sym, ap}
+use Prim.Native.Nat.{◌-◌, ◌≤◌}
+use lib.ListN.{length}
+use Rattle.waking.proofs.WakeWords.{slot_of, first_slots, none_said, slots-few, count_none, count_next, count-all}
+use native.Mathlib.Omega.{arith}
+use borrow.Author.Rules.{rules}
+use Rattle.waking.proofs.slots_length.Given as goal
+
+abbrev pub invariant-loop-i : goal.invariant-loop-i
+invariant-loop-i l = (l.i ≤ l.many) × (l.all ≡ length (first_slots (slot_of l.entry l.at) l.i))
+
+abbrev pub decreases-loop-i : goal.decreases-loop-i
+decreases-loop-i l = l.many - l.i
