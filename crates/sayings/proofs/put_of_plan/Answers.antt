@@ -1,0 +1,23 @@
+-- `sayings::put_of_plan` meets its contract: the words of each arm are those of its number.
+use mathlib.Core.Path.{refl}
+use native.Mathlib.Omega.{arith}
+use Rattle.meaning.specs.Lister.{text}
+use Rattle.sayings.specs.Saying.{unknown, sayings, saying}
+use Rattle.sayings.proofs.PutWords.{put-words-of}
+use Rattle.sayings.proofs.put_of_plan.Goals as goal
+
+pub returns-in-9 : goal.returns-in-9
+unfolding text unknown sayings saying
+returns-in-9 c =
+    put-words-of c.in-9.is refl c.put_words.ensures
+
+pub returns-in-10 : goal.returns-in-10
+unfolding text unknown sayings saying
+returns-in-10 c =
+    put-words-of c.in-10.is refl c.put_words-in-10.ensures
+
+pub returns-in_default : goal.returns-in_default
+unfolding text unknown sayings saying
+returns-in_default c =
+    put-words-of {number = c.args.number} {k = 11} (omega arith) refl
+    c.put_words-in_default.ensures
