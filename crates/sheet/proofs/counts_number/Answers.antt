@@ -3,11 +3,26 @@ use native.Mathlib.Omega.{arith}
 use mathlib.Core.Path.{◌≡◌, ap}
 use Prim.Native.Nat.{ℕ, ◌+◌, ◌*◌, ◌/◌, ◌≤◌}
 use lib.ListN.{length}
-use Rattle.meaning.specs.Sheet.{probe_count, pair_count_at}
+use mathlib.Core.List.{List}
+use Rattle.meaning.specs.Sheet.{probe_count, pair_count_at, pair_count}
 use Rattle.laws.proofs.Accepted.{pairs-of-few}
 use Rattle.sheet.proofs.Counts.{Possible, empty-sheet, many-probes, no-pair-count, many-pairs, too_short, too_long, counts-passed}
-use borrow.Author.Rules.{rules}
 use Rattle.sheet.proofs.counts_number.Goals as goal
+
+-- as many pairs as there can be, of the number read and of the sheet's
+most-pairs : (a b : ℕ) → a ≡ b → a * (a + 1) / 2 ≡ b * (b + 1) / 2
+most-pairs a b e = ap (λ (p : ℕ). p * (p + 1) / 2) e
+
+-- the counts as they were read and tested are there and possible
+possible : (s : List ℕ) (p q : ℕ) → (length s ≡ 0 → ⊥) → p ≡ probe_count s → p ≤ 63 → pair_count_at s + 2 ≤ length s
+    → q ≡ pair_count s → q ≤ p * (p + 1) / 2 → Possible s
+possible s p q some read few counted pairs few_pairs =
+    record {
+      some = some;
+      few = omega arith;
+      counted = counted;
+      few_pairs = omega (arith, most-pairs p (probe_count s) read);
+    }
 
 pub returns-then-length-eq0 : goal.returns-then-length-eq0
 returns-then-length-eq0 c =
@@ -17,54 +32,38 @@ pub returns-then-p-gt63 : goal.returns-then-p-gt63
 returns-then-p-gt63 c =
     many-probes _ c.if-length-eq0.false (omega (arith, c.number_at-p.ensures))
 
-few : (c : tie.After-number-at) → c.number_at.result ≤ 63 → probe_count c.before.before.before.args.sheet.now ≤ 63
-few c h = omega (arith, c.number_at.ensures)
-
 pub returns-then-length-at : goal.returns-then-length-at
 returns-then-length-at c =
-    let test = c in
-    no-pair-count _ test.if-length-eq0.false (few test test.if-p-gt63.false) (omega (arith, c.pair_count_at-at.ensures))
+    no-pair-count _ c.if-length-eq0.false (omega (arith, c.number_at-p.ensures)) (omega (arith, c.pair_count_at-at.ensures))
 
 pub overflow_mul-p : goal.overflow_mul-p
 overflow_mul-p c =
     omega (arith, pairs-of-few c.number_at-p.result (omega arith))
 
-counted : (c : tie.Else3)
-    → let s = c.before.before.before.before.before.before.args.sheet.now in
-    pair_count_at s + 2 ≤ length s
-counted c = omega (arith, c.before.pair-count-at.ensures)
-
--- as many pairs as there can be, of the number read and of the sheet's
-most-pairs : (c : tie.After-number-at)
-    → let p = probe_count c.before.before.before.args.sheet.now in
-    c.number_at.result * (c.number_at.result + 1) / 2 ≡ p * (p + 1) / 2
-most-pairs c = ap (λ (p : ℕ). p * (p + 1) / 2) c.number_at.ensures
-
 pub returns-then-p-q : goal.returns-then-p-q
 returns-then-p-q c =
-    let test = c in
-    many-pairs _ test.if-length-eq0.false (few test test.if-p-gt63.false) (counted c)
-    (omega (arith, c.pair_count-q.ensures, most-pairs test))
-
-possible : (c : tie.Else4) → Possible c.before.before.before.before.before.before.before.before.args.sheet.now
-possible c =
-    record {
-      some = c.before.before.before.before.before.before.if1.false;
-      few = few c.before.before.before.before.before c.before.before.before.before.if2.false;
-      counted = counted c.before.before;
-      few_pairs = omega (arith, c.before.pair-count.ensures, most-pairs c.before.before.before.before.before);
-    }
+    let few : probe_count c.args.sheet.now ≤ 63 = omega (arith, c.number_at-p.ensures) in
+    let counted : pair_count_at c.args.sheet.now + 2 ≤ length c.args.sheet.now = omega (arith, c.pair_count_at-at.ensures) in
+    many-pairs _ c.if-length-eq0.false few counted
+    (omega (arith, c.pair_count-q.ensures, most-pairs _ _ c.number_at-p.ensures))
 
 pub returns-then-length-whole : goal.returns-then-length-whole
 returns-then-length-whole c =
-    too_short _ (possible c) (omega (arith, c.pair_count-q.ensures, c.pair_count_at-at.ensures))
+    let counts : Possible c.args.sheet.now =
+    possible _ _ _ c.if-length-eq0.false c.number_at-p.ensures c.if-p-gt63.false
+    (omega (arith, c.pair_count_at-at.ensures)) c.pair_count-q.ensures c.if-p-q.false in
+    too_short _ counts (omega (arith, c.pair_count-q.ensures, c.pair_count_at-at.ensures))
 
 pub returns-then-whole-length : goal.returns-then-whole-length
 returns-then-whole-length c =
-    let pairs = c in
-    too_long _ (possible c) (omega (arith, pairs.pair_count-q.ensures, pairs.pair_count_at-at.ensures))
+    let counts : Possible c.args.sheet.now =
+    possible _ _ _ c.if-length-eq0.false c.number_at-p.ensures c.if-p-gt63.false
+    (omega (arith, c.pair_count_at-at.ensures)) c.pair_count-q.ensures c.if-p-q.false in
+    too_long _ counts (omega (arith, c.pair_count-q.ensures, c.pair_count_at-at.ensures))
 
 pub returns : goal.returns
 returns c =
-    let pairs = c in
-    counts-passed _ (possible c) (omega (arith, pairs.pair_count-q.ensures, pairs.pair_count_at-at.ensures))
+    let counts : Possible c.args.sheet.now =
+    possible _ _ _ c.if-length-eq0.false c.number_at-p.ensures c.if-p-gt63.false
+    (omega (arith, c.pair_count_at-at.ensures)) c.pair_count-q.ensures c.if-p-q.false in
+    counts-passed _ counts (omega (arith, c.pair_count-q.ensures, c.pair_count_at-at.ensures))

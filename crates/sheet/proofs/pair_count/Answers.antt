@@ -1,7 +1,6 @@
 -- `sheet::pair_count` meets its contract: two bytes below 256, read where q stands.
 use native.Mathlib.Omega.{arith}
 use Rattle.sheet.proofs.Parts.{pair-count-read}
-use borrow.Author.Rules.{rules}
 use Rattle.sheet.proofs.pair_count.Goals as goal
 
 pub overflow_add-at : goal.overflow_add-at

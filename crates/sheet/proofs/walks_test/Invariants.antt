@@ -1,9 +1,7 @@
 -- `sheet::walks_test` meets its contract: the walks' invariant, as far as probe k + 2, and its four laws.
-use mathlib.Core.Path.{◌∙◌}
 use Prim.Native.Nat.{◌-◌}
 use lib.ListN.{get_or}
-use borrow.Author.Rules.{rules}
-use Rattle.sheet.proofs.AllWalks.{Walked, walks-start, walks_next, walks-stray, walks-end}
+use Rattle.sheet.proofs.AllWalks.{Walked}
 use Rattle.sheet.proofs.walks_test.Given as goal
 
 abbrev pub invariant-loop-k : goal.invariant-loop-k
