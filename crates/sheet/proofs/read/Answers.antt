@@ -2,10 +2,7 @@
 -- does what was read on the way is the tree.
 use mathlib.Core.Path.{◌≡◌, ◌∙◌}
 use mathlib.Core.Bool.{true}
-use mathlib.Core.List.{List}
-use Prim.Native.Nat.{ℕ}
 use native.Mathlib.Omega.{arith}
-use borrow.Author.Rules.{rules}
 use Rattle.meaning.specs.Words.{tab, places}
 use Rattle.meaning.specs.Sheet.{parent_of}
 use Rattle.meaning.specs.Answer.{is_accepted, counts_test}
@@ -18,84 +15,62 @@ returns-then-counts-ne0 c =
     c.refused.ensures ∙ counts-decide _ _ c.counts_test-counts.ensures c.if-counts-ne0.true
 
 -- behind the counts
-abbrev sheet : tie.Else1 → List ℕ
-sheet c = c.before.before.before.before.args.sheet.now
-
-counts-fine : (c : tie.Else1) → is_accepted (counts_test (sheet c)) ≡ true
-counts-fine c = no_number _ _ c.before.before.counts-test.ensures c.if1.false
-
-probes-answer : (c : tie.After-probes-test) → c.probes-test.result ≡ probes_answer (sheet c.before.before.before)
-probes-answer c =
-    c.probes-test.ensures
-    ∙ probes-read (sheet c.before.before.before) _ _ c.before.before.number_at.ensures c.before.probe-records.ensures
-
 pub returns-then-tested-ne0 : goal.returns-then-tested-ne0
 returns-then-tested-ne0 c =
-    c.refused-then-tested-ne0.ensures
-    ∙ probes-decide _ (counts-fine c) _ (probes-answer c) c.if-tested-ne0.true
+    let s = c.args.sheet.now in
+    let counts : is_accepted (counts_test s) ≡ true = no_number _ _ c.counts_test-counts.ensures c.if-counts-ne0.false in
+    let tested : c.probes_test-tested.result ≡ probes_answer s =
+    c.probes_test-tested.ensures ∙ probes-read s _ _ c.number_at-probes.ensures c.probe_records-records.ensures in
+    c.refused-then-tested-ne0.ensures ∙ probes-decide s counts _ tested c.if-tested-ne0.true
 
 -- behind the probes
-abbrev counted : tie.Else2 → tie.Else1
-counted c = c.before.before.before.before.before
-
-probes-fine : (c : tie.Else2) → is_accepted (probes_answer (sheet (counted c))) ≡ true
-probes-fine c = no_number _ _ (probes-answer c.before.before) c.if2.false
-
-parents-are : (c : tie.After-parents) → c.parents.result ≡ tab places (parent_of (sheet (counted c.before)))
-parents-are c =
-    let probes = c.before.before.before in
-    c.parents.ensures
-    ∙ parents-read (sheet (counted c.before)) _ _ probes.before.before.number_at.ensures probes.before.probe-records.ensures
-
 pub walks_test-walks-requires : goal.walks_test-walks-requires
 walks_test-walks-requires c =
-    let few = few-probes _ (counts-fine (counted c)) in
-    omega (arith, few, c.number_at-probes.ensures)
-
-walks-answer : (c : tie.After-walks-test) → c.walks-test.result.outcome ≡ walks_answer (sheet (counted c.before.before.before))
-walks-answer c =
-    let behind = counted c.before.before.before in
-    let p = c.before.before.before.before.before.before.before.number_at.ensures in
-    walks-read (sheet behind) (counts-fine behind) _ _ _ p (parents-are c.before.before) c.walks-test.ensures
+    let counts : is_accepted (counts_test c.args.sheet.now) ≡ true = no_number _ _ c.counts_test-counts.ensures c.if-counts-ne0.false in
+    omega (arith, few-probes _ counts, c.number_at-probes.ensures)
 
 pub returns-then-walked-ne0 : goal.returns-then-walked-ne0
 returns-then-walked-ne0 c =
-    let behind = c in
-    c.refused-then-walked-ne0.ensures
-    ∙ walks-decide _ (counts-fine (counted behind)) (probes-fine behind) _ (walks-answer c) c.if-walked-ne0.true
+    let s = c.args.sheet.now in
+    let p = c.number_at-probes.ensures in
+    let records = c.probe_records-records.ensures in
+    let counts : is_accepted (counts_test s) ≡ true = no_number _ _ c.counts_test-counts.ensures c.if-counts-ne0.false in
+    let tested : c.probes_test-tested.result ≡ probes_answer s = c.probes_test-tested.ensures ∙ probes-read s _ _ p records in
+    let probes : is_accepted (probes_answer s) ≡ true = no_number _ _ tested c.if-tested-ne0.false in
+    let parents : c.parents-parents.result ≡ tab places (parent_of s) = c.parents-parents.ensures ∙ parents-read s _ _ p records in
+    let walked : c.walks_test-walks.result.outcome ≡ walks_answer s = walks-read s counts _ _ _ p parents c.walks_test-walks.ensures in
+    c.refused-then-walked-ne0.ensures ∙ walks-decide s counts probes _ walked c.if-walked-ne0.true
 
 -- behind the walks
-abbrev probed : tie.Else3 → tie.Else2
-probed c = c.before.before.before.before.before.before
-
-walks-fine : (c : tie.Else3) → is_accepted (walks_answer (sheet (counted (probed c)))) ≡ true
-walks-fine c = no_number _ _ (walks-answer c.before.before.before) c.if3.false
-
-pairs-answer : (c : tie.After-pairs-test) → c.pairs-test.result ≡ pairs_answer (sheet (counted (probed c.before.before.before)))
-pairs-answer c =
-    let behind = probed c.before.before.before in
-    let p = behind.before.before.before.before.number_at.ensures in
-    c.pairs-test.ensures
-    ∙ pairs-read (sheet (counted behind)) _ _ _ p c.before.pair-count.ensures c.before.before.pair-records.ensures
-
 pub returns-then-outcome-ne0 : goal.returns-then-outcome-ne0
 returns-then-outcome-ne0 c =
-    let behind = c in
-    let counts = counts-fine (counted (probed behind)) in
-    c.refused-then-outcome-ne0.ensures
-    ∙ pairs_decide _ counts (probes-fine (probed behind)) (walks-fine behind) _ (pairs-answer c) c.if-outcome-ne0.true
+    let s = c.args.sheet.now in
+    let p = c.number_at-probes.ensures in
+    let records = c.probe_records-records.ensures in
+    let counts : is_accepted (counts_test s) ≡ true = no_number _ _ c.counts_test-counts.ensures c.if-counts-ne0.false in
+    let tested : c.probes_test-tested.result ≡ probes_answer s = c.probes_test-tested.ensures ∙ probes-read s _ _ p records in
+    let probes : is_accepted (probes_answer s) ≡ true = no_number _ _ tested c.if-tested-ne0.false in
+    let parents : c.parents-parents.result ≡ tab places (parent_of s) = c.parents-parents.ensures ∙ parents-read s _ _ p records in
+    let walked : c.walks_test-walks.result.outcome ≡ walks_answer s = walks-read s counts _ _ _ p parents c.walks_test-walks.ensures in
+    let walks : is_accepted (walks_answer s) ≡ true = no_number _ _ walked c.if-walked-ne0.false in
+    let paired : c.pairs_test-outcome.result ≡ pairs_answer s =
+    c.pairs_test-outcome.ensures ∙ pairs-read s _ _ _ p c.pair_count.ensures c.pair_records.ensures in
+    c.refused-then-outcome-ne0.ensures ∙ pairs_decide s counts probes walks _ paired c.if-outcome-ne0.true
 
+-- behind the pairs
 pub returns : goal.returns
 returns c =
-    let passed = c in
-    let behind = passed in
-    let walks = behind in
-    let s = sheet (counted (probed behind)) in
-    let counts = counts-fine (counted (probed behind)) in
-    let p = (probed behind).before.before.before.before.number_at.ensures in
-    let records = (probed behind).before.before.before.probe-records.ensures in
-    let parents = parents-are walks in
+    let s = c.args.sheet.now in
+    let p = c.number_at-probes.ensures in
+    let records = c.probe_records-records.ensures in
+    let counts : is_accepted (counts_test s) ≡ true = no_number _ _ c.counts_test-counts.ensures c.if-counts-ne0.false in
+    let tested : c.probes_test-tested.result ≡ probes_answer s = c.probes_test-tested.ensures ∙ probes-read s _ _ p records in
+    let probes : is_accepted (probes_answer s) ≡ true = no_number _ _ tested c.if-tested-ne0.false in
+    let parents : c.parents-parents.result ≡ tab places (parent_of s) = c.parents-parents.ensures ∙ parents-read s _ _ p records in
+    let walked : c.walks_test-walks.result.outcome ≡ walks_answer s = walks-read s counts _ _ _ p parents c.walks_test-walks.ensures in
+    let walks : is_accepted (walks_answer s) ≡ true = no_number _ _ walked c.if-walked-ne0.false in
+    let paired : c.pairs_test-outcome.result ≡ pairs_answer s =
+    c.pairs_test-outcome.ensures ∙ pairs-read s _ _ _ p c.pair_count.ensures c.pair_records.ensures in
     let packets = c.packets-packets.ensures ∙ packets-read s _ _ p records in
-    let levels = levels-read s counts _ _ _ p parents walks.walks_test-walks.ensures (walks-fine behind) in
-    tree-read s counts (probes-fine (probed behind)) (walks-fine behind) _ (pairs-answer passed) passed.if-outcome-ne0.false _ _ _ _ _ p parents packets
-    levels c.hops-hops.ensures
+    let levels = levels-read s counts _ _ _ p parents c.walks_test-walks.ensures walks in
+    tree-read s counts probes walks _ paired c.if-outcome-ne0.false _ _ _ _ _ p parents packets levels c.hops-hops.ensures
