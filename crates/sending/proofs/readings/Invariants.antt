@@ -1,11 +1,8 @@
 -- `sending::readings` meets its contract: before place i each probe has its reading, and no other node has one.
-use mathlib.Core.Path.{refl, ap, ◌∙◌}
 use mathlib.Core.Bool.{cond, ◌&&◌}
-use Prim.Native.Nat.{ℕ, ◌+◌, ◌-◌}
+use Prim.Native.Nat.{◌-◌}
 use lib.Dec.{leb}
-use Rattle.meaning.specs.Words.{tab, places}
-use Rattle.laws.proofs.Lists.{Becoming, becoming-start, becoming-next, becoming-whole}
-use borrow.Author.Rules.{rules}
+use Rattle.laws.proofs.Lists.{Becoming}
 use Rattle.sending.proofs.readings.Given as goal
 
 abbrev pub invariant-loop-i : goal.invariant-loop-i

@@ -2,14 +2,13 @@
 use mathlib.Core.Path.{◌≡◌, refl, ap, ◌∙◌}
 use mathlib.Core.Bool.{Bool, false, cond, not, ◌&&◌}
 use mathlib.Core.List.{List}
-use Prim.Native.Nat.{ℕ, ◌-◌}
+use Prim.Native.Nat.{ℕ}
 use lib.ListN.{get_or}
 use Rattle.meaning.specs.Words.{tab, places, by_node}
 use Rattle.meaning.specs.Rounds.{holds, ready, waits}
 use Rattle.laws.specs.Few.{at_most63}
 use Rattle.laws.proofs.Turns.{get_or-tab, tab-same}
-use Rattle.laws.proofs.Lists.{Becoming, becoming-start, becoming-next, becoming-whole}
-use borrow.Author.Rules.{rules}
+use Rattle.laws.proofs.Lists.{becoming-start, becoming-next, becoming-whole}
 use Rattle.sending.proofs.ready.Goals as goal
 
 pub loop-i-init : goal.loop-i-init

@@ -1,15 +1,9 @@
 -- `sending::ready` meets its contract: before place i each node has its 1 or 0; who waits is read off the list of those that do.
-use mathlib.Core.Path.{◌≡◌, refl, ap, ◌∙◌}
-use mathlib.Core.Bool.{Bool, false, cond, not, ◌&&◌}
-use mathlib.Core.List.{List}
-use Prim.Native.Nat.{ℕ, ◌-◌}
+use mathlib.Core.Bool.{false, cond, not, ◌&&◌}
+use Prim.Native.Nat.{◌-◌}
 use lib.ListN.{get_or}
-use Rattle.meaning.specs.Words.{tab, places, by_node}
-use Rattle.meaning.specs.Rounds.{holds, ready, waits}
-use Rattle.laws.specs.Few.{at_most63}
-use Rattle.laws.proofs.Turns.{get_or-tab, tab-same}
-use Rattle.laws.proofs.Lists.{Becoming, becoming-start, becoming-next, becoming-whole}
-use borrow.Author.Rules.{rules}
+use Rattle.meaning.specs.Rounds.{holds}
+use Rattle.laws.proofs.Lists.{Becoming}
 use Rattle.sending.proofs.ready.Given as goal
 
 abbrev pub invariant-loop-i : goal.invariant-loop-i

@@ -8,7 +8,6 @@ use Rattle.meaning.specs.Words.{by_node}
 use Rattle.meaning.specs.Rounds.{goes_in}
 use Rattle.slot.specs.Move.{moved_within}
 use Rattle.sending.proofs.ToGateway.{to-gateway}
-use borrow.Author.Rules.{rules}
 use Rattle.sending.proofs.send.Goals as goal
 
 -- what is moved depends on the mode alone
@@ -18,11 +17,11 @@ by_mode mode its parent slot held e = ap (λ (m : Mode). moved_within (goes_in m
 pub returns-in-Packets : goal.returns-in-Packets
 returns-in-Packets c =
     let a = c.args in
-    c.move_packets.ensures ∙ by_mode a.mode Packets (by_node a.parents.now) a.slot.now a.held.now c.enum_told-1.given.1
+    c.move_packets.ensures ∙ by_mode a.mode Packets (by_node a.parents.now) a.slot.now a.held.now c.in-Packets.is
 
 pub returns-in-Merged : goal.returns-in-Merged
 returns-in-Merged c =
     let a = c.args in
     c.move_packets-in-Merged.ensures
     ∙ to-gateway a.slot.now a.held.now
-    ∙ by_mode a.mode Merged (by_node a.parents.now) a.slot.now a.held.now c.enum_told-in-Merged-1.given.1
+    ∙ by_mode a.mode Merged (by_node a.parents.now) a.slot.now a.held.now c.in-Merged.is

@@ -1,13 +1,13 @@
 -- `sending::waiting` meets its contract: who waits for one of the first k probes is flagged.
 use mathlib.Core.Path.{◌≡◌, refl, ap, ◌∙◌}
-use mathlib.Core.Logic.{⊎_elim}
-use Prim.Native.Nat.{ℕ, ◌-◌, ◌≤◌}
+use Prim.Native.Nat.{ℕ}
 use native.Mathlib.Omega.{arith}
 use Rattle.meaning.specs.Words.{some, tab, places, by_node}
 use Rattle.meaning.specs.Rounds.{waits}
 use Rattle.sending.proofs.WaitsFor.{parent-waits, nobody-waits}
 use borrow.Author.Rules.{rules}
 use Rattle.sending.proofs.waiting.Goals as goal
+use Rattle.sending.proofs.waiting.Goals.{then-parent-lt65, else-parent-lt65}
 
 pub loop-k-init : goal.loop-k-init
 unfolding tab some
@@ -19,8 +19,10 @@ loop-k-preserved c =
     let a = c.args in
     let l = c.loop-k in (
       search rules,
-      ⊎_elim (λ w. w.2 ∙ parent-waits (by_node a.parents.now) a.held.now l.k l.flags l.invariant.1 _ refl w.0.taken)
-          (λ w. w.1 ∙ nobody-waits (by_node a.parents.now) a.held.now l.k l.flags l.invariant.1 w.0.left) c.if-parent-lt65.branch,
+      elim c.if-parent-lt65.branch [
+        | then-parent-lt65 w ↦ w.flags-is ∙ parent-waits (by_node a.parents.now) a.held.now l.k l.flags l.invariant.1 _ refl w.if-parent-lt65.true
+        | else-parent-lt65 w ↦ w.flags-is ∙ nobody-waits (by_node a.parents.now) a.held.now l.k l.flags l.invariant.1 w.if-parent-lt65.false
+      ],
     )
 
 pub returns : goal.returns

@@ -1,12 +1,8 @@
 -- `sending::waiting` meets its contract: who waits for one of the first k probes is flagged.
-use mathlib.Core.Path.{◌≡◌, refl, ap, ◌∙◌}
-use mathlib.Core.Logic.{⊎_elim}
-use Prim.Native.Nat.{ℕ, ◌-◌, ◌≤◌}
-use native.Mathlib.Omega.{arith}
-use Rattle.meaning.specs.Words.{some, tab, places, by_node}
+use mathlib.Core.Path.{◌≡◌}
+use Prim.Native.Nat.{◌-◌, ◌≤◌}
+use Rattle.meaning.specs.Words.{tab, places, by_node}
 use Rattle.meaning.specs.Rounds.{waits}
-use Rattle.sending.proofs.WaitsFor.{parent-waits, nobody-waits}
-use borrow.Author.Rules.{rules}
 use Rattle.sending.proofs.waiting.Given as goal
 
 abbrev pub invariant-loop-k : goal.invariant-loop-k
