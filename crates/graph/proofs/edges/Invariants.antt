@@ -1,13 +1,10 @@
 -- `graph::edges` meets its contract. The loop's invariant: the edges of the rows before x are counted. The measure is what is left of the table.
-use mathlib.Core.Path.{◌≡◌, refl, sym, ap₂, ◌∙◌}
+use mathlib.Core.Path.{◌≡◌}
 use mathlib.Core.List.{[]}
-use Prim.Native.Nat.{◌≤◌, ◌+◌, ◌-◌, ◌*◌}
+use Prim.Native.Nat.{◌≤◌, ◌-◌, ◌*◌}
 use lib.ListN.{get_or}
 use Rattle.meaning.specs.Words.{sum}
-use Rattle.laws.proofs.Turns.{sum_one}
-use Rattle.graph.specs.Table.{edges_of, edges}
-use native.Mathlib.Omega.{arith}
-use borrow.Author.Rules.{rules}
+use Rattle.graph.specs.Table.{edges_of}
 use Rattle.graph.proofs.edges.Given as goal
 
 abbrev pub invariant-loop-x : goal.invariant-loop-x

@@ -1,14 +1,10 @@
 -- `graph::edges_of` meets its contract. The loop's invariant: those before y are counted. The measure is what is left of the row.
 use mathlib.Core.Path.{◌≡◌, refl, sym, ap₂, ◌∙◌}
-use mathlib.Core.Bool.{false, ◌&&◌}
-use Prim.Native.Nat.{◌≤◌, ◌+◌, ◌-◌}
-use lib.Dec.{ltb}
-use lib.ListN.{get_or}
-use Rattle.meaning.specs.Words.{sum, count}
+use Prim.Native.Nat.{◌+◌}
+use Rattle.meaning.specs.Words.{sum}
 use Rattle.laws.proofs.Turns.{sum_one}
 use Rattle.graph.specs.Table.{edges_of}
 use native.Mathlib.Omega.{arith}
-use borrow.Author.Rules.{rules}
 use Rattle.graph.proofs.edges_of.Goals as goal
 
 pub loop-y-init : goal.loop-y-init
@@ -21,9 +17,8 @@ loop-y-preserved c =
     let turn = c.loop-y in
     (omega arith, omega arith, ap₂ ◌+◌ turn.invariant.2 c.one_if-n.ensures.count ∙ sym (sum_one _ _))
 
-pub returns : goal.returns
+pub returns-clause-count : goal.returns-clause-count
 unfolding edges_of
-returns c =
-    let all = let done = c.loop-y in
-    let full : done.y ≡ 65 = omega arith in
-    (rw full at done.invariant.2, omega arith) in record { count = all.0; few = all.1 }
+returns-clause-count c =
+    let full : c.loop-y.y ≡ 65 = omega arith in
+    rw full at c.loop-y.invariant.2

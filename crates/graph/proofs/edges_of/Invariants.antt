@@ -1,14 +1,10 @@
 -- `graph::edges_of` meets its contract. The loop's invariant: those before y are counted. The measure is what is left of the row.
-use mathlib.Core.Path.{◌≡◌, refl, sym, ap₂, ◌∙◌}
+use mathlib.Core.Path.{◌≡◌}
 use mathlib.Core.Bool.{false, ◌&&◌}
-use Prim.Native.Nat.{◌≤◌, ◌+◌, ◌-◌}
+use Prim.Native.Nat.{◌≤◌, ◌-◌}
 use lib.Dec.{ltb}
 use lib.ListN.{get_or}
-use Rattle.meaning.specs.Words.{sum, count}
-use Rattle.laws.proofs.Turns.{sum_one}
-use Rattle.graph.specs.Table.{edges_of}
-use native.Mathlib.Omega.{arith}
-use borrow.Author.Rules.{rules}
+use Rattle.meaning.specs.Words.{count}
 use Rattle.graph.proofs.edges_of.Given as goal
 
 abbrev pub invariant-loop-y : goal.invariant-loop-y
