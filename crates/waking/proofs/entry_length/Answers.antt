@@ -2,10 +2,12 @@
 use mathlib.Core.Path.{ap, ◌∙◌}
 use native.Mathlib.Omega.{arith}
 use Rattle.meaning.specs.Book.{behind_list}
-use borrow.Author.Rules.{rules}
 use Rattle.waking.proofs.entry_length.Goals as goal
 
 pub returns : goal.returns
 returns c =
-    let all = let entry = c.args.entry.now in
-    (c.behind_list-2.ensures.0 ∙ ap (behind_list entry) c.behind_list.ensures.0, omega (arith, c.behind_list-2.ensures.1, c.behind_list.ensures.1)) in record { answer = all.0; few = all.1 }
+    let entry = c.args.entry.now in
+    record {
+      answer = c.behind_list-2.ensures.0 ∙ ap (behind_list entry) c.behind_list.ensures.0;
+      few = omega (arith, c.behind_list-2.ensures.1, c.behind_list.ensures.1);
+    }

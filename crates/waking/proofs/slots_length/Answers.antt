@@ -1,10 +1,8 @@
 -- `waking::slots_length` meets its contract. The invariant: the bytes of the first i slots are counted. The measure is what is left of the slots.
-use mathlib.Core.Path.{◌≡◌, sym, ap}
-use Prim.Native.Nat.{◌-◌, ◌≤◌}
+use mathlib.Core.Path.{sym, ap}
 use lib.ListN.{length}
-use Rattle.waking.proofs.WakeWords.{slot_of, first_slots, none_said, slots-few, count_none, count_next, count-all}
+use Rattle.waking.proofs.WakeWords.{slot_of, none_said, slots-few, count_none, count_next, count-all}
 use native.Mathlib.Omega.{arith}
-use borrow.Author.Rules.{rules}
 use Rattle.waking.proofs.slots_length.Goals as goal
 
 pub returns-then-many-eq0 : goal.returns-then-many-eq0

@@ -1,10 +1,8 @@
 -- `waking::slots_length` meets its contract. The invariant: the bytes of the first i slots are counted. The measure is what is left of the slots.
-use mathlib.Core.Path.{◌≡◌, sym, ap}
+use mathlib.Core.Path.{◌≡◌}
 use Prim.Native.Nat.{◌-◌, ◌≤◌}
 use lib.ListN.{length}
-use Rattle.waking.proofs.WakeWords.{slot_of, first_slots, none_said, slots-few, count_none, count_next, count-all}
-use native.Mathlib.Omega.{arith}
-use borrow.Author.Rules.{rules}
+use Rattle.waking.proofs.WakeWords.{slot_of, first_slots}
 use Rattle.waking.proofs.slots_length.Given as goal
 
 abbrev pub invariant-loop-i : goal.invariant-loop-i
