@@ -2,18 +2,21 @@
 // what is said about them, and the exit status.
 #![tactic(auto)]
 
-ghost use Rattle.std.specs.Prelude.{◌≡◌, min, length, replicate};
+ghost use Rattle.std.specs.Prelude.{◌≡◌, ◌+◌, min, length, replicate, IfOk, IfSome};
 ghost use Rattle.std.proofs.lemmas.List.Edits.{sets};
-ghost use Rattle.libc.specs.Io.{Moved};
 ghost use Rattle.io.specs.Counts.{IsPrefixLen};
 ghost use Rattle.meaning.specs.Plan.{deciding_plan};
 ghost use Rattle.meaning.specs.Lister.{any_text};
 ghost use Rattle.lines.specs.Line.{fitting};
-ghost use Rattle.files.specs.Status.{answered, failed, status_of, OrFailed, Descriptor};
+ghost use Rattle.files.specs.Status.{answered, failed, status_of, OrFailed, IsStatus};
 ghost use Rattle.files.specs.Name.{is_dash, plain_byte, flattened};
 
-use libc::{STDERR_FILENO, STDIN_FILENO, STDOUT_FILENO};
 use meaning::Outcome;
+use std::env::{Env, FillError};
+use std::fs::{File, OpenOptions};
+use std::io::{Error, ErrorKind, Print, Read, Stdin, Write};
+use std::random::RandomSource;
+use std::{fs, io};
 
 // The exit status: answered, refused, or not answered at all.
 pub const ANSWERED: u8 = b'0';
@@ -22,8 +25,34 @@ pub const REFUSED: u8 = b'1';
 
 pub const FAILED: u8 = b'2';
 
-// Here the starting script listens for the exit status; no answer goes there.
-const STATUS_FILENO: i32 = 3;
+// Where words go: to standard output, or to standard error where standard output takes what is made.
+#[derive(Clone, Copy)]
+pub enum Stream {
+    Output,
+    Errors,
+}
+
+// What is read: a file, or standard input.
+#[derive(Drop)]
+pub enum Source {
+    Named(File),
+    Input(Stdin),
+}
+
+impl Read for Source {
+    fn read(&mut self, buf: &mut [u8]) -> io::Result<usize> {
+        match self {
+            Source::Named(file) => file.read(buf),
+            Source::Input(input) => input.read(buf),
+        }
+    }
+}
+
+// Room for any name that the system takes.
+const ANY_NAME: usize = 4096;
+
+// Linux's number for a name that is too long.
+const NAME_TOO_LONG: i32 = 36;
 
 // Room for any plan of ours, and for as much of another as decides its verdict; all zeros.
 pub fn plan_room() -> [u8; meaning::DECIDING_PLAN]
@@ -41,6 +70,13 @@ pub fn text_room() -> [u8; meaning::ANY_TEXT]
     [0; meaning::ANY_TEXT]
 }
 
+// Room for a name.
+pub fn name_room() -> [u8; ANY_NAME]
+    ensures { 4096 ≡ length result }
+{
+    [0; ANY_NAME]
+}
+
 // As many bytes as were answered; never more than buf has, which the answers' contracts give as well.
 pub fn within(n: usize, buf: &[u8]) -> usize
     ensures answer { result ≡ min n (length buf.now) }
@@ -56,25 +92,59 @@ fn if_done(is_done: bool, status: u8) -> u8
     if is_done { status } else { FAILED }
 }
 
+// Writes bytes to a stream at once.
+pub fn put(rt: &HostRuntime, to: Stream, bytes: &[u8]) -> io::Result<()> {
+    match to {
+        Stream::Output => Print::write_all(&rt.stdout(), bytes),
+        Stream::Errors => Print::write_all(&rt.stderr(), bytes),
+    }
+}
+
+// An error in the system's words, without its number; puts them at a place and says where they end.
+fn put_reason(error: &Error, line: &mut [u8], at: usize) -> usize {
+    let mut room = [0u8; 300];
+    let mut rest = &mut room[..];
+    let _ = write!(rest, "{error}");
+    let left = rest.len();
+    let end = within(300usize.saturating_sub(left), &room);
+    let said = str::from_utf8(&room[..end]).unwrap_or("");
+    let words = match said.split_once(" (os error ") {
+        Some((words, _)) => words,
+        None => said,
+    };
+    lines::put_words(words.as_bytes(), line, at)
+}
+
+// Says on standard error what failed and why.
+pub fn fail(rt: &HostRuntime, what: &[u8], error: &Error) {
+    let mut line = [0u8; 4500];
+    let a = lines::put_words(what, &mut line, 0);
+    let b = lines::put_words(b": ", &mut line, a);
+    let c = put_reason(error, &mut line, b);
+    let d = lines::put_words(b"\n", &mut line, c);
+    let n = within(d, &line);
+    let _ = put(rt, Stream::Errors, &line[..n]);
+}
+
 // Writes a text at once; answers the status, after saying so where it could not be written.
-pub fn say(to: i32, text: &[u8], status: u8) -> u8
+pub fn say(rt: &HostRuntime, to: Stream, text: &[u8], status: u8) -> u8
     ensures { OrFailed status result }
 {
-    let is_written = io::write_all(to, text);
-    if !is_written {
-        os::fail(b"the answer cannot be written");
+    let written = put(rt, to, text);
+    if let Err(error) = &written {
+        fail(rt, b"the answer cannot be written", error);
     }
-    if_done(is_written, status)
+    if_done(written.is_ok(), status)
 }
 
 // Says an answer about a sheet, a plan or a graph.
-pub fn say_answer(to: i32, text: &[u8], outcome: Outcome) -> u8
+pub fn say_answer(rt: &HostRuntime, to: Stream, text: &[u8], outcome: Outcome) -> u8
     ensures { OrFailed (status_of outcome) result }
 {
     if outcome.number == 0 {
-        return say(to, text, ANSWERED);
+        return say(rt, to, text, ANSWERED);
     }
-    say(to, text, REFUSED)
+    say(rt, to, text, REFUSED)
 }
 
 // A byte of a name as it is shown: a byte that would end the line, or ring a bell, is a question mark.
@@ -110,41 +180,94 @@ fn shown(path: &[u8], name: &mut [u8]) -> usize
 }
 
 // Says a word and a name, on one line.
-pub fn say_named(to: i32, word: &[u8], path: &[u8]) -> u8
+pub fn say_named(rt: &HostRuntime, to: Stream, word: &[u8], path: &[u8]) -> u8
     ensures { result ≡ failed }
 {
-    let mut name = io::buffer();
+    let mut name = name_room();
     let n = shown(path, &mut name);
     let mut line = [0u8; 4200];
     let a = lines::put_words(word, &mut line, 0);
     let b = lines::put_words(&name[..n], &mut line, a);
     let d = lines::put_words(b"\n", &mut line, b);
     let m = within(d, &line);
-    say(to, &line[..m], FAILED);
+    say(rt, to, &line[..m], FAILED);
     FAILED
 }
 
 // Says which file failed and, on standard error, why.
-pub fn say_failed(to: i32, word: &[u8], path: &[u8]) -> u8
+pub fn say_failed(rt: &HostRuntime, to: Stream, word: &[u8], path: &[u8], error: &Error) -> u8
     ensures { result ≡ failed }
 {
-    let mut name = io::buffer();
+    let mut name = name_room();
     let n = shown(path, &mut name);
-    os::fail(&name[..n]);
-    say_named(to, word, path)
+    fail(rt, &name[..n], error);
+    say_named(rt, to, word, path)
 }
 
-// Tells the starting script the exit status, once standard output is closed and no answer can be lost any more; answers what it told.
-pub fn tell(status: u8) -> u8
+// Has what was written to standard output on the device, where it is a regular file, so that no answer can be lost any more.
+fn settle(rt: &HostRuntime) -> io::Result<()> {
+    let output = "/dev/stdout";
+    match fs::metadata(rt, output) {
+        Ok(known) if known.is_file() => synced(OpenOptions::new().append(true).open(rt, output)),
+        _ => Ok(()),
+    }
+}
+
+// Has a file on the device; one that may not be opened again, or that nobody can have there, is left to the system.
+fn synced(file: io::Result<File>) -> io::Result<()> {
+    match file {
+        Ok(file) => match file.sync_all() {
+            Err(error) if error.kind() != ErrorKind::InvalidInput => Err(error),
+            _ => Ok(()),
+        },
+        Err(_) => Ok(()),
+    }
+}
+
+// Answers the exit status, once no answer can be lost any more.
+pub fn tell(rt: &HostRuntime, status: u8) -> u8
     ensures { OrFailed status result }
 {
-    let is_closed = libc::close(STDOUT_FILENO) == 0;
-    if !is_closed && status != FAILED {
-        os::fail(b"standard output");
+    let settled = settle(rt);
+    if let Err(error) = &settled {
+        if status != FAILED {
+            fail(rt, b"standard output", error);
+        }
     }
-    let told = if_done(is_closed, status);
-    io::write_all(STATUS_FILENO, &[told]);
-    told
+    if_done(settled.is_ok(), status)
+}
+
+// The number that the program ends with.
+pub fn exit_number(status: u8) -> u8
+    ensures { IsStatus status → result + answered ≡ status }
+{
+    match status {
+        ANSWERED => 0,
+        REFUSED => 1,
+        _ => 2,
+    }
+}
+
+// How many arguments there are; more than seven count as eight, since no command takes so many.
+pub fn arg_count(rt: &HostRuntime) -> usize {
+    let mut count = 0;
+    while count < 8 {
+        if let Err(FillError::NotPresent) = rt.arg(count, &mut []) {
+            return count;
+        }
+        count += 1;
+    }
+    count
+}
+
+// Puts argument i into a word; says how long it is, or nothing where there is none or it is too long.
+pub fn arg(rt: &HostRuntime, i: usize, word: &mut [u8]) -> Option<usize>
+    ensures { IfSome result (λ n. IsPrefixLen n word.new) }
+{
+    let Ok(n) = rt.arg(i, word) else {
+        return None;
+    };
+    Some(within(n, word))
 }
 
 // Where the starting script says what is to be written goes to: what is read itself, or what is written straight; else to a regular file or a new one.
@@ -161,74 +284,100 @@ pub fn is_dash(path: &[u8]) -> bool
     path.len() == 1 && laws::number_at(path, 0) == b'-'
 }
 
-// Answered where nothing more of a file can be read, since it has ended and reading it has not failed.
-pub fn end_status(fd: i32) -> u8
+// A name as the system's calls take it here.
+fn text_of(path: &[u8]) -> io::Result<&str> {
+    match str::from_utf8(path) {
+        Ok(text) => Ok(text),
+        Err(_) => Err(Error::new(
+            ErrorKind::InvalidFilename,
+            "a name that is not UTF-8",
+        )),
+    }
+}
+
+// Reads until a buffer is full or a file ends; says how many bytes stand in it then, or why it cannot be read so far.
+pub fn read_full(from: &mut Source, buf: &mut [u8]) -> io::Result<usize>
+    ensures { IfOk result (λ n. IsPrefixLen n buf.new) }
+{
+    let mut done = 0;
+    for _ in 0..u64::MAX {
+        if buf.len() <= done {
+            break;
+        }
+        match from.read(&mut buf[done..]) {
+            Ok(0) => break,
+            Ok(n) => done += n,
+            Err(error) if error.kind() == ErrorKind::Interrupted => {}
+            Err(error) => return Err(error),
+        }
+    }
+    Ok(within(done, buf))
+}
+
+// Answered where reading has not failed.
+pub fn end_status(got: &io::Result<usize>) -> u8
     ensures { OrFailed answered result }
 {
-    let mut more = [0u8; 1];
-    if_done(libc::read(fd, &mut more) == 0, ANSWERED)
+    if_done(got.is_ok(), ANSWERED)
 }
 
-fn open_read(path: &[u8]) -> i32 {
+fn open_read(rt: &HostRuntime, path: &[u8]) -> io::Result<Source> {
     if is_dash(path) {
-        return STDIN_FILENO;
+        return Ok(Source::Input(rt.stdin()));
     }
-    os::open_read(path)
+    Ok(Source::Named(File::open(rt, text_of(path)?)?))
 }
 
-// Opens a file to be read; answers -1 after saying that it cannot be read.
-pub fn open_named(to: i32, path: &[u8]) -> i32
-    ensures { Descriptor result }
-{
-    let fd = open_read(path);
-    if fd < 0 {
-        say_failed(to, b"unreadable ", path);
-        return -1;
+// Opens a file to be read, or says that it cannot be read.
+pub fn open_named(rt: &HostRuntime, to: Stream, path: &[u8]) -> Option<Source> {
+    match open_read(rt, path) {
+        Ok(source) => Some(source),
+        Err(error) => {
+            say_failed(rt, to, b"unreadable ", path, &error);
+            None
+        }
     }
-    fd
 }
 
 // How many bytes of a buffer were read, unless they could not be.
-fn if_read(is_read: bool, n: usize, buf: &[u8]) -> isize
+fn if_read(is_read: bool, n: usize, buf: &[u8]) -> Option<usize>
     requires { IsPrefixLen n buf.now }
-    ensures { Moved (length buf.now) result }
+    ensures { IfSome result (λ m. IsPrefixLen m buf.now) }
 {
-    if is_read { n as isize } else { -1 }
+    if is_read { Some(n) } else { None }
 }
 
-// Puts the name that argument i is into path; answers how long it is, or -1 after saying that it is too long.
-pub fn name_to_read(to: i32, i: usize, path: &mut [u8]) -> isize
-    ensures { Moved (length path.new) result }
-{
-    let n = os::arg(i, path);
-    let is_whole = os::errno() == 0;
-    if !is_whole {
-        say_failed(to, b"unreadable ", b"a name that is too long");
-    }
-    if_read(is_whole, n, path)
+// Says that an argument is too long to be a name.
+fn say_too_long(rt: &HostRuntime, to: Stream, word: &[u8]) {
+    let error = Error::from_raw_os_error(NAME_TOO_LONG);
+    say_failed(rt, to, word, b"a name that is too long", &error);
 }
 
-// Reads the file that argument i names into buf; answers how many bytes, or -1 after saying that it cannot be read.
-pub fn read_file(to: i32, i: usize, buf: &mut [u8]) -> isize
-    ensures { Moved (length buf.new) result }
+// Puts the name that argument i is into path; says how long it is, or that it is too long.
+pub fn name_to_read(rt: &HostRuntime, to: Stream, i: usize, path: &mut [u8]) -> Option<usize>
+    ensures { IfSome result (λ n. IsPrefixLen n path.new) }
 {
-    let mut path = io::buffer();
-    let named = name_to_read(to, i, &mut path);
-    if named < 0 {
-        return -1;
+    let n = arg(rt, i, path);
+    if n.is_none() {
+        say_too_long(rt, to, b"unreadable ");
     }
-    let n = io::count(named, &path);
-    let fd = open_named(to, &path[..n]);
-    if fd < 0 {
-        return -1;
+    n
+}
+
+// Reads the file that argument i names into buf; answers how many bytes, or nothing after saying that it cannot be read.
+pub fn read_file(rt: &HostRuntime, to: Stream, i: usize, buf: &mut [u8]) -> Option<usize>
+    ensures { IfSome result (λ n. IsPrefixLen n buf.new) }
+{
+    let mut path = name_room();
+    let n = name_to_read(rt, to, i, &mut path)?;
+    let mut source = open_named(rt, to, &path[..n])?;
+    match read_full(&mut source, buf) {
+        Ok(got) => if_read(true, got, buf),
+        Err(error) => {
+            say_failed(rt, to, b"unreadable ", &path[..n], &error);
+            None
+        }
     }
-    let got = io::read_full(fd, buf);
-    let is_all = got == buf.len() || end_status(fd) == ANSWERED;
-    if !is_all {
-        say_failed(to, b"unreadable ", &path[..n]);
-    }
-    libc::close(fd);
-    if_read(is_all, got, buf)
 }
 
 // Where the folder's part of a path ends.
@@ -245,9 +394,9 @@ fn folder_end(path: &[u8]) -> usize {
 }
 
 // Eight letters that no other run has.
-fn own_letters() -> [u8; 8] {
+fn own_letters(rt: &HostRuntime) -> [u8; 8] {
     let mut letters = [0u8; 8];
-    libc::getentropy(&mut letters);
+    let _ = rt.fill_bytes(&mut letters);
     let mut i = 0;
     while i < 8 {
         letters[i] = b'a' + letters[i] % 16;
@@ -257,99 +406,119 @@ fn own_letters() -> [u8; 8] {
 }
 
 // Puts a name of its own in the same folder into name; answers how long it is.
-fn name_beside(path: &[u8], name: &mut [u8]) -> usize {
+fn name_beside(rt: &HostRuntime, path: &[u8], name: &mut [u8]) -> usize {
     let n = within(folder_end(path), path);
     let a = lines::put_words(&path[..n], name, 0);
     let b = lines::put_words(b".yard-", name, a);
-    lines::put_words(&own_letters(), name, b)
+    lines::put_words(&own_letters(rt), name, b)
 }
 
-// Writes a plan or a text to a new file and has it on the device; answers whether all of it is there.
-fn write_new(fd: i32, bytes: &[u8]) -> bool {
-    let is_there = io::write_all(fd, bytes) && libc::fsync(fd) == 0;
-    libc::close(fd) == 0 && is_there
+// Writes a plan or a text to a new file and has it on the device.
+fn write_new(mut file: File, bytes: &[u8]) -> io::Result<()> {
+    file.write_all(bytes)?;
+    file.sync_all()
+}
+
+// Writes it to a new file and gives that the name that was asked for.
+fn write_and_rename(
+    rt: &HostRuntime,
+    file: File,
+    beside: &str,
+    path: &str,
+    bytes: &[u8],
+) -> io::Result<()> {
+    write_new(file, bytes)?;
+    fs::rename(rt, beside, path)
 }
 
 // Writes it beside and gives it the name that was asked for; the file of that name stays whole where that fails.
-fn replace(path: &[u8], bytes: &[u8]) -> bool {
-    let mut name = io::buffer();
-    let end = name_beside(path, &mut name);
+fn replace(rt: &HostRuntime, path: &str, bytes: &[u8]) -> io::Result<()> {
+    let mut name = name_room();
+    let end = name_beside(rt, path.as_bytes(), &mut name);
     let n = within(end, &name);
-    let fd = os::create(&name[..n]);
-    if fd < 0 {
-        return false;
+    let beside = text_of(&name[..n])?;
+    let file = OpenOptions::new()
+        .write(true)
+        .create_new(true)
+        .open(rt, beside)?;
+    let written = write_and_rename(rt, file, beside, path, bytes);
+    if written.is_err() {
+        let _ = fs::remove_file(rt, beside);
     }
-    if write_new(fd, bytes) && os::rename(&name[..n], path) == 0 {
-        return true;
-    }
-    os::unlink(&name[..n]);
-    false
+    written
 }
 
-// Whether the file of a name may be written, or is not there yet.
-fn may_replace(path: &[u8]) -> bool {
-    let fd = os::open_append(path);
-    if fd < 0 {
-        return os::errno() == libc::ENOENT;
+// Whether the file of a name may be written, or is not there yet; an error where it may not.
+fn may_replace(rt: &HostRuntime, path: &str) -> io::Result<()> {
+    match OpenOptions::new().append(true).open(rt, path) {
+        Ok(_) => Ok(()),
+        Err(error) if error.kind() == ErrorKind::NotFound => Ok(()),
+        Err(error) => Err(error),
     }
-    libc::close(fd) == 0
 }
 
 // Writes it to what has a name and is no regular file.
-fn write_straight(path: &[u8], bytes: &[u8]) -> bool {
-    let fd = os::open_overwrite(path);
-    if fd < 0 {
-        return false;
-    }
-    let is_written = io::write_all(fd, bytes);
-    libc::close(fd) == 0 && is_written
+fn write_straight(rt: &HostRuntime, path: &str, bytes: &[u8]) -> io::Result<()> {
+    let mut file = File::create(rt, path)?;
+    file.write_all(bytes)
 }
 
-fn write_as(path: &[u8], bytes: &[u8], is_straight: bool) -> bool {
+fn write_as(rt: &HostRuntime, path: &[u8], bytes: &[u8], is_straight: bool) -> io::Result<()> {
     if is_dash(path) {
-        return io::write_all(STDOUT_FILENO, bytes);
+        return put(rt, Stream::Output, bytes);
     }
+    let path = text_of(path)?;
     if is_straight {
-        return write_straight(path, bytes);
+        return write_straight(rt, path, bytes);
     }
-    may_replace(path) && replace(path, bytes)
+    may_replace(rt, path)?;
+    replace(rt, path, bytes)
 }
 
 // What the starting script knows of the file that a plan or a text is to go to.
-fn output() -> u8 {
+fn output(rt: &HostRuntime) -> u8 {
     let mut word = [0u8; 1];
-    os::arg(OUTPUT_IS, &mut word);
+    let _ = rt.arg(OUTPUT_IS, &mut word);
     word[0]
 }
 
-// Writes a plan, a book or a text to the file that argument i names, which is never the sheet nor a book's plan; answers whether it could, after saying so where not.
-fn is_written(to: i32, i: usize, bytes: &[u8]) -> bool {
-    let mut path = io::buffer();
-    let n = os::arg(i, &mut path);
-    if os::errno() != 0 {
-        say_failed(to, b"unwritable ", b"a name that is too long");
-        return false;
-    }
-    let kind = output();
+// Writes a plan, a book or a text to the file of a name, which is never the sheet nor a book's plan; answers whether it could, after saying so where not.
+fn is_written_to(rt: &HostRuntime, to: Stream, path: &[u8], bytes: &[u8]) -> bool {
+    let kind = output(rt);
     if kind == WHAT_IS_READ {
         say_named(
-            STDERR_FILENO,
+            rt,
+            Stream::Errors,
             b"what is read is not written over: ",
-            &path[..n],
+            path,
         );
-        say_named(to, b"unwritable ", &path[..n]);
+        say_named(rt, to, b"unwritable ", path);
         return false;
     }
-    if write_as(&path[..n], bytes, kind == STRAIGHT) {
-        return true;
+    match write_as(rt, path, bytes, kind == STRAIGHT) {
+        Ok(()) => true,
+        Err(error) => {
+            say_failed(rt, to, b"unwritable ", path, &error);
+            false
+        }
     }
-    say_failed(to, b"unwritable ", &path[..n]);
-    false
+}
+
+// The same of the file that argument i names.
+fn is_written(rt: &HostRuntime, to: Stream, i: usize, bytes: &[u8]) -> bool {
+    let mut path = name_room();
+    match arg(rt, i, &mut path) {
+        Some(n) => is_written_to(rt, to, &path[..n], bytes),
+        None => {
+            say_too_long(rt, to, b"unwritable ");
+            false
+        }
+    }
 }
 
 // The same; the answer is a status.
-pub fn write_file(to: i32, i: usize, bytes: &[u8]) -> u8
+pub fn write_file(rt: &HostRuntime, to: Stream, i: usize, bytes: &[u8]) -> u8
     ensures { OrFailed answered result }
 {
-    if_done(is_written(to, i, bytes), ANSWERED)
+    if_done(is_written(rt, to, i, bytes), ANSWERED)
 }
