@@ -6,8 +6,7 @@ ghost use Rattle.io.specs.Counts.{IsPrefixLen};
 ghost use Rattle.meaning.specs.Book.{any_book, book_made};
 ghost use Rattle.files.specs.Status.{status_of, OrFailed};
 
-use files::{ANSWERED, FAILED, within};
-use libc::STDOUT_FILENO;
+use files::{ANSWERED, FAILED, Stream, within};
 use meaning::{Booked, Judgement, Mode, Probe, Verdict};
 
 // Room for the words of any book: six bytes for each of its slots, and sixty for what else a line has.
@@ -22,7 +21,7 @@ fn book_room() -> [u8; meaning::ANY_BOOK]
 }
 
 // Says why there is no book, in the judge's words.
-fn say_refused(to: i32, booked: Booked) -> u8
+fn say_refused(rt: &HostRuntime, to: Stream, booked: Booked) -> u8
     ensures { OrFailed (status_of booked.outcome) result }
 {
     let outcome = booked.outcome;
@@ -30,26 +29,26 @@ fn say_refused(to: i32, booked: Booked) -> u8
     let verdict = Verdict { outcome, slots: 0 };
     let mut line = [0u8; wording::ANY_ANSWER];
     let m = wording::verdict(&mut line, Mode::Packets, Judgement { verdict, names });
-    files::say_answer(to, &line[..m], outcome)
+    files::say_answer(rt, to, &line[..m], outcome)
 }
 
 // Writes the book of a plan to its file, and says how long it is; a refusal leaves the file alone.
-pub fn write_book(to: i32, out: usize, sheet: &[u8], plan: &[u8]) -> u8
+pub fn write_book(rt: &HostRuntime, to: Stream, out: usize, sheet: &[u8], plan: &[u8]) -> u8
     ensures { OrFailed (status_of (book_made sheet.now plan.now any_book).answer.outcome) result }
 {
     let mut book = book_room();
     let booked = book::wake_book(sheet, plan, &mut book);
     let outcome = booked.outcome;
     if outcome.number != 0 {
-        return say_refused(to, booked);
+        return say_refused(rt, to, booked);
     }
     let n = within(booked.bytes, &book);
-    if files::write_file(to, out, &book[..n]) != ANSWERED {
+    if files::write_file(rt, to, out, &book[..n]) != ANSWERED {
         return FAILED;
     }
     let mut line = [0u8; wording::ANY_ANSWER];
     let m = wording::written(&mut line, outcome, n);
-    files::say_answer(to, &line[..m], outcome)
+    files::say_answer(rt, to, &line[..m], outcome)
 }
 
 // Puts the line of each probe of a book at the start of a text; says where they end.
@@ -73,17 +72,17 @@ fn put_lines(book: &[u8], text: &mut [u8]) -> usize
 }
 
 // Says the book of a plan, a line for each probe.
-pub fn say_book(sheet: &[u8], plan: &[u8]) -> u8
+pub fn say_book(rt: &HostRuntime, sheet: &[u8], plan: &[u8]) -> u8
     ensures { OrFailed (status_of (book_made sheet.now plan.now any_book).answer.outcome) result }
 {
     let mut book = book_room();
     let booked = book::wake_book(sheet, plan, &mut book);
     let outcome = booked.outcome;
     if outcome.number != 0 {
-        return say_refused(STDOUT_FILENO, booked);
+        return say_refused(rt, Stream::Output, booked);
     }
     let n = within(booked.bytes, &book);
     let mut text = [0u8; ANY_WORDS];
     let m = put_lines(&book[..n], &mut text);
-    files::say_answer(STDOUT_FILENO, &text[..m], outcome)
+    files::say_answer(rt, Stream::Output, &text[..m], outcome)
 }

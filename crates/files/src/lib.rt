@@ -2,7 +2,7 @@
 // what is said about them, and the exit status.
 #![tactic(auto)]
 
-ghost use Rattle.std.specs.Prelude.{◌≡◌, ◌+◌, min, length, replicate, IfOk, IfSome};
+ghost use Rattle.std.specs.Prelude.{◌≡◌, ◌+◌, min, length, replicate, IfSome};
 ghost use Rattle.std.proofs.lemmas.List.Edits.{sets};
 ghost use Rattle.io.specs.Counts.{IsPrefixLen};
 ghost use Rattle.meaning.specs.Plan.{deciding_plan};
@@ -288,37 +288,44 @@ pub fn is_dash(path: &[u8]) -> bool
 fn text_of(path: &[u8]) -> io::Result<&str> {
     match str::from_utf8(path) {
         Ok(text) => Ok(text),
-        Err(_) => Err(Error::new(
-            ErrorKind::InvalidFilename,
-            "a name that is not UTF-8",
-        )),
+        Err(_) => Err(Error::new(ErrorKind::InvalidFilename, "a name that is not UTF-8")),
     }
 }
 
-// Reads until a buffer is full or a file ends; says how many bytes stand in it then, or why it cannot be read so far.
-pub fn read_full(from: &mut Source, buf: &mut [u8]) -> io::Result<usize>
-    ensures { IfOk result (λ n. IsPrefixLen n buf.new) }
+// What was read of a file: so many bytes, and why no more where that is not its end.
+#[derive(Clone, Copy)]
+pub struct Got {
+    pub bytes: usize,
+    pub failed: Option<Error>,
+}
+
+// Reads until a buffer is full, a file ends or reading it fails.
+pub fn read_full(from: &mut Source, buf: &mut [u8]) -> Got
+    ensures { IsPrefixLen result.bytes buf.new }
 {
     let mut done = 0;
-    for _ in 0..u64::MAX {
-        if buf.len() <= done {
-            break;
-        }
+    let mut failed = None;
+    while done < buf.len() {
         match from.read(&mut buf[done..]) {
             Ok(0) => break,
             Ok(n) => done += n,
-            Err(error) if error.kind() == ErrorKind::Interrupted => {}
-            Err(error) => return Err(error),
+            Err(error) => {
+                failed = Some(error);
+                break;
+            }
         }
     }
-    Ok(within(done, buf))
+    Got {
+        bytes: within(done, buf),
+        failed,
+    }
 }
 
-// Answered where reading has not failed.
-pub fn end_status(got: &io::Result<usize>) -> u8
+// Answered where a file was read to its end, or as far as there was room.
+pub fn end_status(got: Got) -> u8
     ensures { OrFailed answered result }
 {
-    if_done(got.is_ok(), ANSWERED)
+    if_done(got.failed.is_none(), ANSWERED)
 }
 
 fn open_read(rt: &HostRuntime, path: &[u8]) -> io::Result<Source> {
@@ -371,13 +378,11 @@ pub fn read_file(rt: &HostRuntime, to: Stream, i: usize, buf: &mut [u8]) -> Opti
     let mut path = name_room();
     let n = name_to_read(rt, to, i, &mut path)?;
     let mut source = open_named(rt, to, &path[..n])?;
-    match read_full(&mut source, buf) {
-        Ok(got) => if_read(true, got, buf),
-        Err(error) => {
-            say_failed(rt, to, b"unreadable ", &path[..n], &error);
-            None
-        }
+    let got = read_full(&mut source, buf);
+    if let Some(error) = &got.failed {
+        say_failed(rt, to, b"unreadable ", &path[..n], error);
     }
+    if_read(end_status(got) == ANSWERED, got.bytes, buf)
 }
 
 // Where the folder's part of a path ends.

@@ -20,13 +20,12 @@ fn run(rt: &HostRuntime) -> u8 {
         return files::say(rt, Stream::Errors, b"usage: lister < SHEET\n", FAILED);
     }
     let mut sheet = [0u8; meaning::DECIDING_SHEET];
-    match files::read_full(&mut Source::Input(rt.stdin()), &mut sheet) {
-        Ok(n) => print(rt, &sheet[..n]),
-        Err(error) => {
-            files::fail(rt, b"standard input", &error);
-            FAILED
-        }
+    let got = files::read_full(&mut Source::Input(rt.stdin()), &mut sheet);
+    if let Some(error) = &got.failed {
+        files::fail(rt, b"standard input", error);
+        return FAILED;
     }
+    print(rt, &sheet[..got.bytes])
 }
 
 fn main(rt: HostRuntime) -> ExitCode {

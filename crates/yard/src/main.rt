@@ -2,9 +2,9 @@
 // The first word of an answer is fixed, so that a script can go by it.
 #![tactic(auto)]
 
-use files::{ANSWERED, FAILED, REFUSED};
-use libc::{STDERR_FILENO, STDOUT_FILENO};
+use files::{ANSWERED, FAILED, REFUSED, Stream};
 use meaning::{Choice, Mode, Outcome, Told};
+use std::process::ExitCode;
 
 // The arguments; in front of them stands what the starting script knows of an output (`files`).
 const COMMAND: usize = 2;
@@ -18,7 +18,7 @@ const SECOND: usize = 5;
 const OUT: usize = 6;
 
 // What is asked for.
-#[derive(Drop)]
+#[derive(Clone, Copy)]
 enum Command {
     Ask,
     List,
@@ -40,13 +40,12 @@ enum Command {
 }
 
 // The milliseconds behind the sheet; 0 where it says no slot's length.
-fn slot_length() -> u16 {
+fn slot_length(rt: &HostRuntime) -> u16 {
     let mut word = [0u8; 16];
-    let n = os::arg(PLAN, &mut word);
-    if os::errno() != 0 {
-        return 0;
+    match files::arg(rt, PLAN, &mut word) {
+        Some(n) => dealer::milliseconds(&word[..n]),
+        None => 0,
     }
-    dealer::milliseconds(&word[..n])
 }
 
 // The command of a word.
@@ -75,15 +74,15 @@ fn command_named(word: &[u8]) -> Command {
 }
 
 // Whether a sheet stands there, and behind it nothing or a slot's length.
-fn is_asked(count: usize) -> bool {
-    count == 4 || count == 5 && slot_length() != 0
+fn is_asked(rt: &HostRuntime, count: usize) -> bool {
+    count == 4 || count == 5 && slot_length(rt) != 0
 }
 
 // Whether as many words stand as a command wants.
-fn is_complete(what: Command, count: usize) -> bool {
+fn is_complete(rt: &HostRuntime, what: Command, count: usize) -> bool {
     match what {
-        Command::Ask => is_asked(count),
-        Command::MergedAsk => is_asked(count),
+        Command::Ask => is_asked(rt, count),
+        Command::MergedAsk => is_asked(rt, count),
         Command::List => count == 4,
         Command::Table => count == 4,
         Command::Choose => count == 6 || count == 7,
@@ -96,9 +95,9 @@ fn is_complete(what: Command, count: usize) -> bool {
 }
 
 // The command of a word, where as many words stand as it wants.
-fn command_of(word: &[u8], count: usize) -> Command {
+fn command_of(rt: &HostRuntime, word: &[u8], count: usize) -> Command {
     let what = command_named(word);
-    if is_complete(what, count) {
+    if is_complete(rt, what, count) {
         what
     } else {
         Command::Unknown
@@ -106,9 +105,9 @@ fn command_of(word: &[u8], count: usize) -> Command {
 }
 
 // Puts how long a reading of the sheet takes, in minutes too where it is said how long a slot is, and how long otherwise arranged; says where it ends.
-fn put_asked(sheet: &[u8], told: Told, text: &mut [u8]) -> usize {
+fn put_asked(rt: &HostRuntime, sheet: &[u8], told: Told, text: &mut [u8]) -> usize {
     let outcome = told.outcome;
-    let n = dealer::asked(text, told, slot_length());
+    let n = dealer::asked(text, told, slot_length(rt));
     if outcome.number != 0 {
         return n;
     }
@@ -117,104 +116,105 @@ fn put_asked(sheet: &[u8], told: Told, text: &mut [u8]) -> usize {
 }
 
 // Says so, two lines in one write.
-fn ask(sheet: &[u8]) -> u8 {
+fn ask(rt: &HostRuntime, sheet: &[u8]) -> u8 {
     let told = telephone::ask(sheet);
     let mut text = [0u8; 2 * wording::ANY_ANSWER];
-    let n = put_asked(sheet, told, &mut text);
+    let n = put_asked(rt, sheet, told, &mut text);
     let end = files::within(n, &text);
-    files::say_answer(STDOUT_FILENO, &text[..end], told.outcome)
+    files::say_answer(rt, Stream::Output, &text[..end], told.outcome)
 }
 
 // Writes a sheet that was made to its file, and says how long it is; a refusal leaves the file alone.
-fn write_sheet(to: i32, outcome: Outcome, made: &[u8]) -> u8 {
+fn write_sheet(rt: &HostRuntime, to: Stream, outcome: Outcome, made: &[u8]) -> u8 {
     if outcome.number == 0 {
-        if files::write_file(to, PLAN, made) != ANSWERED {
+        if files::write_file(rt, to, PLAN, made) != ANSWERED {
             return FAILED;
         }
     }
     let mut line = [0u8; wording::ANY_ANSWER];
     let m = wording::written(&mut line, outcome, made.len());
-    files::say_answer(to, &line[..m], outcome)
+    files::say_answer(rt, to, &line[..m], outcome)
 }
 
-fn hang_worst(to: i32, sheet: &[u8]) -> u8 {
+fn hang_worst(rt: &HostRuntime, to: Stream, sheet: &[u8]) -> u8 {
     let tree = sheet::read(sheet);
     let mut made = [0u8; arrangement::LONGEST_SHEET];
     let n = files::within(arrangement::worst_sheet(sheet, &mut made), &made);
-    write_sheet(to, tree.outcome, &made[..n])
+    write_sheet(rt, to, tree.outcome, &made[..n])
 }
 
-fn hang_best(to: i32, sheet: &[u8]) -> u8 {
+fn hang_best(rt: &HostRuntime, to: Stream, sheet: &[u8]) -> u8 {
     let tree = sheet::read(sheet);
     let mut made = [0u8; arrangement::LONGEST_SHEET];
     let n = files::within(arrangement::best_sheet(sheet, &mut made), &made);
-    write_sheet(to, tree.outcome, &made[..n])
+    write_sheet(rt, to, tree.outcome, &made[..n])
 }
 
 // Lists the sheet; a refusal is said with its meaning.
-fn list(sheet: &[u8]) -> u8 {
+fn list(rt: &HostRuntime, sheet: &[u8]) -> u8 {
     let tree = sheet::read(sheet);
     let outcome = tree.outcome;
     if outcome.number != 0 {
         let mut line = [0u8; wording::ANY_ANSWER];
         let n = wording::refused(&mut line, outcome);
-        return files::say_answer(STDOUT_FILENO, &line[..n], outcome);
+        return files::say_answer(rt, Stream::Output, &line[..n], outcome);
     }
     let mut text = files::text_room();
     let n = listing::list(sheet, &mut text);
-    files::say_answer(STDOUT_FILENO, &text[..n], outcome)
+    files::say_answer(rt, Stream::Output, &text[..n], outcome)
 }
 
-fn plan_by_probe(to: i32, sheet: &[u8]) -> u8 {
+fn plan_by_probe(rt: &HostRuntime, to: Stream, sheet: &[u8]) -> u8 {
     let mut plan = files::plan_room();
     let planned = plan::by_probe(sheet, &mut plan);
-    plans::write_planned(to, PLAN, planned, &plan)
+    plans::write_planned(rt, to, PLAN, planned, &plan)
 }
 
-fn plan_by_level(to: i32, sheet: &[u8]) -> u8 {
+fn plan_by_level(rt: &HostRuntime, to: Stream, sheet: &[u8]) -> u8 {
     let mut plan = files::plan_room();
     let planned = plan::by_level(sheet, &mut plan);
-    plans::write_planned(to, PLAN, planned, &plan)
+    plans::write_planned(rt, to, PLAN, planned, &plan)
 }
 
 // Judges the plan in a file; its first 96,032 bytes decide every verdict.
-fn judge(sheet: &[u8]) -> u8 {
+fn judge(rt: &HostRuntime, sheet: &[u8]) -> u8 {
     let mut plan = files::plan_room();
-    let got = files::read_file(STDOUT_FILENO, PLAN, &mut plan);
-    if got < 0 {
+    let Some(n) = files::read_file(rt, Stream::Output, PLAN, &mut plan) else {
         return FAILED;
-    }
-    let n = io::count(got, &plan);
-    plans::say_judgement(Mode::Packets, judge::judgement(sheet, &plan[..n]))
+    };
+    plans::say_judgement(rt, Mode::Packets, judge::judgement(sheet, &plan[..n]))
 }
 
 // Judges the merged plan in a file; its first 65,855 bytes decide every verdict.
-fn judge_merged(sheet: &[u8]) -> u8 {
+fn judge_merged(rt: &HostRuntime, sheet: &[u8]) -> u8 {
     let mut plan = plans::merged_room();
-    let got = files::read_file(STDOUT_FILENO, PLAN, &mut plan);
-    if got < 0 {
+    let Some(n) = files::read_file(rt, Stream::Output, PLAN, &mut plan) else {
         return FAILED;
-    }
-    let n = io::count(got, &plan);
-    plans::say_judgement(Mode::Merged, judge::merged_judgement(sheet, &plan[..n]))
+    };
+    plans::say_judgement(rt, Mode::Merged, judge::merged_judgement(sheet, &plan[..n]))
 }
 
 // Makes the wake book of the plan in a file: into a file where one is named, else in words.
-fn book(to: i32, sheet: &[u8]) -> u8 {
+fn book(rt: &HostRuntime, to: Stream, sheet: &[u8]) -> u8 {
     let mut plan = files::plan_room();
-    let got = files::read_file(to, PLAN, &mut plan);
-    if got < 0 {
+    let Some(n) = files::read_file(rt, to, PLAN, &mut plan) else {
         return FAILED;
+    };
+    if files::arg_count(rt) == 6 {
+        return books::write_book(rt, to, SECOND, sheet, &plan[..n]);
     }
-    let n = io::count(got, &plan);
-    if os::arg_count() == 6 {
-        return books::write_book(to, SECOND, sheet, &plan[..n]);
-    }
-    books::say_book(sheet, &plan[..n])
+    books::say_book(rt, sheet, &plan[..n])
 }
 
 // Says which of two plans was chosen, and what the judge says of each.
-fn say_choice(to: i32, sheet: &[u8], first: &[u8], second: &[u8], choice: Choice) -> u8 {
+fn say_choice(
+    rt: &HostRuntime,
+    to: Stream,
+    sheet: &[u8],
+    first: &[u8],
+    second: &[u8],
+    choice: Choice,
+) -> u8 {
     let on_first = judge::judgement(sheet, first);
     let on_second = judge::judgement(sheet, second);
     let status = if let Choice::Neither = choice {
@@ -224,75 +224,79 @@ fn say_choice(to: i32, sheet: &[u8], first: &[u8], second: &[u8], choice: Choice
     };
     let mut text = [0u8; wording::ANY_ANSWER];
     let n = wording::chosen(&mut text, choice, on_first, on_second);
-    files::say(to, &text[..n], status)
+    files::say(rt, to, &text[..n], status)
 }
 
 // Writes the plan that is handed back to a file, where one is named and a plan passes.
-fn keep_choice<'a>(to: i32, sheet: &[u8], first: &'a [u8], second: &'a [u8]) -> u8 {
+fn keep_choice<'a>(
+    rt: &HostRuntime,
+    to: Stream,
+    sheet: &[u8],
+    first: &'a [u8],
+    second: &'a [u8],
+) -> u8 {
     let choice = chooser::choice(sheet, first, second);
     if let Choice::Neither = choice {
-        return say_choice(to, sheet, first, second, choice);
+        return say_choice(rt, to, sheet, first, second, choice);
     }
-    if os::arg_count() == 7 {
+    if files::arg_count(rt) == 7 {
         let kept = chooser::choose(sheet, first, second);
-        if files::write_file(to, OUT, kept) != ANSWERED {
+        if files::write_file(rt, to, OUT, kept) != ANSWERED {
             return FAILED;
         }
     }
-    say_choice(to, sheet, first, second, choice)
+    say_choice(rt, to, sheet, first, second, choice)
 }
 
 // Chooses between the plans in two files.
-fn choose(to: i32, sheet: &[u8]) -> u8 {
+fn choose(rt: &HostRuntime, to: Stream, sheet: &[u8]) -> u8 {
     let mut first = files::plan_room();
-    let got = files::read_file(to, PLAN, &mut first);
-    if got < 0 {
+    let Some(n) = files::read_file(rt, to, PLAN, &mut first) else {
         return FAILED;
-    }
-    let n = io::count(got, &first);
+    };
     let mut second = files::plan_room();
-    let more = files::read_file(to, SECOND, &mut second);
-    if more < 0 {
+    let Some(m) = files::read_file(rt, to, SECOND, &mut second) else {
         return FAILED;
-    }
-    let m = io::count(more, &second);
-    keep_choice(to, sheet, &first[..n], &second[..m])
+    };
+    keep_choice(rt, to, sheet, &first[..n], &second[..m])
 }
 
 // Whether argument i stands for standard input or output.
-fn is_dash_argument(i: usize) -> bool {
+fn is_dash_argument(rt: &HostRuntime, i: usize) -> bool {
     let mut word = [0u8; 2];
-    let n = os::arg(i, &mut word);
-    files::is_dash(&word[..n])
+    match files::arg(rt, i, &mut word) {
+        Some(n) => files::is_dash(&word[..n]),
+        None => false,
+    }
 }
 
 // Where the words go: to standard error where what is made goes to standard output.
-fn words_to(what: Command) -> i32 {
+fn words_to(rt: &HostRuntime, what: Command) -> Stream {
     let is_plan = match what {
-        Command::ByProbe => is_dash_argument(PLAN),
-        Command::ByLevel => is_dash_argument(PLAN),
-        Command::Merged => is_dash_argument(PLAN),
-        Command::Graph => is_dash_argument(PLAN),
-        Command::Worst => is_dash_argument(PLAN),
-        Command::Best => is_dash_argument(PLAN),
-        Command::Choose => is_dash_argument(OUT),
-        Command::Book => is_dash_argument(SECOND),
+        Command::ByProbe => is_dash_argument(rt, PLAN),
+        Command::ByLevel => is_dash_argument(rt, PLAN),
+        Command::Merged => is_dash_argument(rt, PLAN),
+        Command::Graph => is_dash_argument(rt, PLAN),
+        Command::Worst => is_dash_argument(rt, PLAN),
+        Command::Best => is_dash_argument(rt, PLAN),
+        Command::Choose => is_dash_argument(rt, OUT),
+        Command::Book => is_dash_argument(rt, SECOND),
         _ => false,
     };
     if is_plan {
-        STDERR_FILENO
+        Stream::Errors
     } else {
-        STDOUT_FILENO
+        Stream::Output
     }
 }
 
 // Whether more than one file is to be standard input or output.
-fn is_dash_twice() -> bool {
-    let count = os::arg_count();
+fn is_dash_twice(rt: &HostRuntime) -> bool {
+    let count = files::arg_count(rt);
     let mut is_once = false;
     let mut i = SHEET;
     while i < count {
-        if is_dash_argument(i) {
+        if is_dash_argument(rt, i) {
             if is_once {
                 return true;
             }
@@ -304,47 +308,46 @@ fn is_dash_twice() -> bool {
 }
 
 // What is asked for, of a sheet.
-fn answer_on(what: Command, to: i32, sheet: &[u8]) -> u8 {
+fn answer_on(rt: &HostRuntime, what: Command, to: Stream, sheet: &[u8]) -> u8 {
     match what {
-        Command::Ask => ask(sheet),
-        Command::List => list(sheet),
-        Command::ByProbe => plan_by_probe(to, sheet),
-        Command::ByLevel => plan_by_level(to, sheet),
-        Command::Judge => judge(sheet),
-        Command::Choose => choose(to, sheet),
-        Command::Graph => texts::write_graph(to, PLAN, sheet),
-        Command::Worst => hang_worst(to, sheet),
-        Command::Best => hang_best(to, sheet),
-        Command::Book => book(to, sheet),
-        Command::Merged => plans::write_merged(to, PLAN, sheet),
-        Command::MergedJudge => judge_merged(sheet),
-        Command::MergedAsk => plans::say_merged_asked(sheet, slot_length()),
+        Command::Ask => ask(rt, sheet),
+        Command::List => list(rt, sheet),
+        Command::ByProbe => plan_by_probe(rt, to, sheet),
+        Command::ByLevel => plan_by_level(rt, to, sheet),
+        Command::Judge => judge(rt, sheet),
+        Command::Choose => choose(rt, to, sheet),
+        Command::Graph => texts::write_graph(rt, to, PLAN, sheet),
+        Command::Worst => hang_worst(rt, to, sheet),
+        Command::Best => hang_best(rt, to, sheet),
+        Command::Book => book(rt, to, sheet),
+        Command::Merged => plans::write_merged(rt, to, PLAN, sheet),
+        Command::MergedJudge => judge_merged(rt, sheet),
+        Command::MergedAsk => plans::say_merged_asked(rt, sheet, slot_length(rt)),
         _ => FAILED,
     }
 }
 
 // The same of the sheet in its file.
-fn answer(what: Command) -> u8 {
-    let to = words_to(what);
+fn answer(rt: &HostRuntime, what: Command) -> u8 {
+    let to = words_to(rt, what);
     let mut bytes = [0u8; meaning::DECIDING_SHEET];
-    let got = files::read_file(to, SHEET, &mut bytes);
-    if got < 0 {
+    let Some(n) = files::read_file(rt, to, SHEET, &mut bytes) else {
         return FAILED;
-    }
-    let n = io::count(got, &bytes);
-    answer_on(what, to, &bytes[..n])
+    };
+    answer_on(rt, what, to, &bytes[..n])
 }
 
 // A text is judged by itself, and everything else by a sheet.
-fn answer_or_show(what: Command) -> u8 {
+fn answer_or_show(rt: &HostRuntime, what: Command) -> u8 {
     if let Command::Table = what {
-        return texts::show_table(SHEET);
+        return texts::show_table(rt, SHEET);
     }
-    answer(what)
+    answer(rt, what)
 }
 
-fn say_usage(to: i32, status: u8) -> u8 {
+fn say_usage(rt: &HostRuntime, to: Stream, status: u8) -> u8 {
     files::say(
+        rt,
         to,
         b"usage: yard ask SHEET [MILLISECONDS]         how long a reading takes; of slots of 1 to 60000 ms also in minutes\n\
             \x20      yard list SHEET                       the plan by probe, as text\n\
@@ -366,25 +369,31 @@ fn say_usage(to: i32, status: u8) -> u8 {
     )
 }
 
-// The exit status of what is asked for.
-fn run() -> u8 {
+// What the first word asks for.
+fn asked_for(rt: &HostRuntime) -> Command {
     let mut word = [0u8; 16];
-    let n = os::arg(COMMAND, &mut word);
-    let what = command_of(&word[..n], os::arg_count());
-    match what {
-        Command::Help => say_usage(STDOUT_FILENO, ANSWERED),
-        Command::Version => files::say(STDOUT_FILENO, b"yard 3.2\n", ANSWERED),
-        Command::Unknown => say_usage(STDERR_FILENO, FAILED),
-        _ => {
-            if is_dash_twice() {
-                return say_usage(STDERR_FILENO, FAILED);
+    match files::arg(rt, COMMAND, &mut word) {
+        Some(n) => command_of(rt, &word[..n], files::arg_count(rt)),
+        None => Command::Unknown,
+    }
+}
+
+// The exit status of what is asked for.
+fn run(rt: &HostRuntime) -> u8 {
+    match asked_for(rt) {
+        Command::Help => say_usage(rt, Stream::Output, ANSWERED),
+        Command::Version => files::say(rt, Stream::Output, b"yard 3.2\n", ANSWERED),
+        Command::Unknown => say_usage(rt, Stream::Errors, FAILED),
+        what => {
+            if is_dash_twice(rt) {
+                return say_usage(rt, Stream::Errors, FAILED);
             }
-            answer_or_show(what)
+            answer_or_show(rt, what)
         }
     }
 }
 
-fn main() {
-    let status = run();
-    files::tell(status);
+fn main(rt: HostRuntime) -> ExitCode {
+    let status = files::tell(&rt, run(&rt));
+    ExitCode::from(files::exit_number(status))
 }
