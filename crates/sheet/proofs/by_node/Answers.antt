@@ -1,12 +1,10 @@
 -- `sheet::by_node` meets its contract: the table is filled from the front, as far as node v.
 use native.Mathlib.Omega.{arith}
 use mathlib.Core.Path.{◌≡◌, refl}
-use Prim.Native.Nat.{◌≤◌, ◌<◌, ◌-◌}
-use lib.ListN.{length, take, length-set}
+use Prim.Native.Nat.{◌<◌}
+use lib.ListN.{length, length-set}
 use Rattle.meaning.specs.Words.{tab}
 use Rattle.laws.proofs.Turns.{tab-next, tab-full}
-use Rattle.sheet.specs.Tree.{record_byte}
-use borrow.Author.Rules.{rules}
 use Rattle.sheet.proofs.by_node.Goals as goal
 
 pub loop-v-init : goal.loop-v-init

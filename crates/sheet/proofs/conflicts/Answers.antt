@@ -1,5 +1,4 @@
 -- `sheet::conflicts` meets its contract: the table of the pairs that stand in the sheet.
-use borrow.Author.Rules.{rules}
 use Rattle.sheet.proofs.conflicts.Goals as goal
 
 pub returns : goal.returns

@@ -3,7 +3,6 @@ use native.Mathlib.Omega.{arith}
 use mathlib.Core.Path.{ap, ◌∙◌}
 use Prim.Native.Nat.{ℕ, ◌+◌}
 use lib.ListN.{drop}
-use borrow.Author.Rules.{rules}
 use Rattle.sheet.proofs.pair_records.Goals as goal
 
 pub overflow_add-at : goal.overflow_add-at

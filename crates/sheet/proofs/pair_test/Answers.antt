@@ -1,6 +1,5 @@
 -- `sheet::pair_test` meets its contract: at each answer the law of that answer, from the bytes that were read and the tests that led there.
 use Rattle.sheet.proofs.Records.{pair-refused, first-passed, order-refused, pair-passed}
-use borrow.Author.Rules.{rules}
 use Rattle.sheet.proofs.pair_test.Goals as goal
 
 pub returns-then-pair_wrong : goal.returns-then-pair_wrong

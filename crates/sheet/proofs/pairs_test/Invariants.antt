@@ -1,8 +1,7 @@
 -- `sheet::pairs_test` meets its contract: the scan's invariant and its four laws.
 use Prim.Native.Nat.{◌-◌}
-use borrow.Author.Rules.{rules}
 use Rattle.meaning.specs.Answer.{pair_test}
-use Rattle.sheet.proofs.Scan.{Scanned, scan-starts, scan-next, scan-stops, scan-ends}
+use Rattle.sheet.proofs.Scan.{Scanned}
 use Rattle.sheet.proofs.pairs_test.Given as goal
 
 abbrev pub invariant-loop-k : goal.invariant-loop-k

@@ -1,6 +1,5 @@
 -- `sheet::probe_test` meets its contract: at each answer the law of that answer, from the bytes that were read and the tests that led there.
 use Rattle.sheet.proofs.Records.{parent-refused, packets-refused, probe-passed}
-use borrow.Author.Rules.{rules}
 use Rattle.sheet.proofs.probe_test.Goals as goal
 
 pub returns-then-parent_wrong : goal.returns-then-parent_wrong

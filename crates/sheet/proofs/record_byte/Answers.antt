@@ -1,6 +1,5 @@
 -- `sheet::record_byte` meets its contract: the laws of a node below the probes, above them, and of a probe.
 use Rattle.sheet.proofs.Parts.{node-below, node-above, node-probe}
-use borrow.Author.Rules.{rules}
 use Rattle.sheet.proofs.record_byte.Goals as goal
 
 pub returns-then-v-lt2 : goal.returns-then-v-lt2

@@ -1,6 +1,5 @@
 -- `sheet::rest` meets its contract: the two laws of the rest of a sheet.
 use Rattle.sheet.proofs.Parts.{rest-within, rest-past}
-use borrow.Author.Rules.{rules}
 use Rattle.sheet.proofs.rest.Goals as goal
 
 pub returns-then-at-end : goal.returns-then-at-end
