@@ -1,0 +1,16 @@
+-- `draw::put_edges` meets its contract. The invariant: the rows before x are put. The measure is how many rows are left.
+use mathlib.Core.Path.{◌≡◌, refl}
+use Prim.Native.Nat.{◌-◌, ◌≤◌}
+use lib.ListN.{length}
+use Rattle.lines.specs.Fits.{Fits}
+use Rattle.graph.specs.Drawing.{texts, row_text}
+use Rattle.graph.proofs.TextsPut.{texts-start, texts-next, texts-all}
+use native.Mathlib.Omega.{arith}
+use borrow.Author.Rules.{rules}
+use Rattle.draw.proofs.put_edges.Given as goal
+
+abbrev pub invariant-loop-x : goal.invariant-loop-x
+invariant-loop-x l = (l.x ≤ 65) × (length l.out ≡ length l.initial.out) × Fits l.initial.out l.at (texts l.x (row_text l.table)) l.out l.end
+
+abbrev pub decreases-loop-x : goal.decreases-loop-x
+decreases-loop-x l = 65 - l.x

@@ -1,0 +1,16 @@
+-- `draw::put_table` meets its contract: the edges are put behind the line that counts them.
+use borrow.Author.Rules.{rules}
+use mathlib.Core.Path.{ap}
+use Prim.Native.Nat.{ℕ}
+use Rattle.lines.proofs.Fitting.{put-behind, put_same}
+use Rattle.graph.specs.Drawing.{problem_line, table_text}
+use Rattle.draw.proofs.put_table.Goals as goal
+
+pub returns : goal.returns
+unfolding table_text
+returns c =
+    let rows = c in
+    let problem = rows in
+    let count = problem in
+    put-behind (put_same (ap (λ (k : ℕ). problem_line count.args.vertices k) count.edges.ensures) problem.put_problem-next.ensures)
+    rows.put_edges.ensures
