@@ -6,8 +6,7 @@ use Rattle.meaning.specs.Conflict.{entry}
 use Rattle.meaning.specs.Words.{tab}
 use Rattle.laws.proofs.Turns.{tab-next}
 use Rattle.conflict.specs.Heard.{either_way}
-use Rattle.conflict.proofs.Tables.{filled}
-use Rattle.conflict.proofs.Hearing.{no_row, own_row}
+use Rattle.conflict.proofs.Hearing.{no_row}
 use Rattle.conflict.proofs.either.Goals as goal
 
 pub returns-then-probes-x-eq0 : goal.returns-then-probes-x-eq0
@@ -28,10 +27,3 @@ loop-y-preserved c =
       simp length-set (omega arith),
       tab-next h.out h.y _ _ (omega arith) h.invariant.2 refl,
     )
-
-pub returns : goal.returns
-returns c =
-    let h = c.loop-y in
-    let start = c.args in
-    own_row start.probes.now (either_way (entry start.heard.now)) start.x h.out c.if-probes-x-eq0.false
-    (filled h.out h.y 65 _ h.invariant.1 h.invariant.2 c.loop-y-test.false h.invariant.0)

@@ -4,7 +4,6 @@ use native.Mathlib.Omega.{arith}
 use lib.ListN.{length, length-set}
 use Rattle.meaning.specs.Words.{tab}
 use Rattle.laws.proofs.Turns.{tab-next}
-use Rattle.conflict.proofs.Tables.{filled}
 use Rattle.conflict.proofs.heard.Goals as goal
 
 pub loop-y-init : goal.loop-y-init
@@ -20,7 +19,3 @@ loop-y-preserved c =
       simp length-set (omega arith),
       tab-next h.out h.y _ _ (omega arith) h.invariant.2 refl,
     )
-
-pub returns : goal.returns
-returns c =
-    let h = c.loop-y in filled h.out h.y 65 _ h.invariant.1 h.invariant.2 c.loop-y-test.false h.invariant.0

@@ -4,7 +4,6 @@ use native.Mathlib.Omega.{arith}
 use lib.ListN.{length, length-set}
 use Rattle.meaning.specs.Words.{tab}
 use Rattle.laws.proofs.Turns.{tab-next}
-use Rattle.conflict.proofs.Tables.{filled}
 use Rattle.conflict.proofs.heard_table.Goals as goal
 
 pub loop-x-init : goal.loop-x-init
@@ -20,7 +19,3 @@ loop-x-preserved c =
       simp length-set (omega arith),
       tab-next h.t h.x _ c.heard_at.result (omega arith) h.invariant.2 c.heard_at.ensures,
     )
-
-pub returns : goal.returns
-returns c =
-    let h = c.loop-x in filled h.t h.x 65 _ h.invariant.1 h.invariant.2 c.loop-x-test.false h.invariant.0

@@ -28,7 +28,3 @@ loop-k-preserved c =
         | else-y-lt65 w ↦ w.t-is ∙ turn-none _ _ _ _ _ _ now (get_or-eq_default c.args.row false (omega arith))
       ],
     )
-
-pub returns : goal.returns
-returns c =
-    let end : c.loop-k.k ≡ c.args.p = omega arith in rw end at c.loop-k.invariant.1

@@ -1,5 +1,5 @@
 -- `conflict::pair_table` meets its contract. The invariant: the table is made of the records passed.
-use mathlib.Core.Path.{◌∙◌, ◌≡◌}
+use mathlib.Core.Path.{◌∙◌}
 use native.Mathlib.Omega.{arith}
 use Rattle.conflict.proofs.Tables.{no-marks, no_record, record-marked}
 use Rattle.conflict.proofs.pair_table.Goals as goal
@@ -12,7 +12,3 @@ pub loop-k-preserved : goal.loop-k-preserved
 loop-k-preserved c =
     let turn = c in
     (omega arith, c.pair-in-loop-k.ensures ∙ cc (record-marked turn.args.records.now turn.loop-k.k))
-
-pub returns : goal.returns
-returns c =
-    let end : c.loop-k.k ≡ c.args.q = omega arith in rw end at c.loop-k.invariant.1

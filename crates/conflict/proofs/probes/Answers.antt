@@ -4,7 +4,6 @@ use native.Mathlib.Omega.{arith}
 use lib.ListN.{length, length-set}
 use Rattle.meaning.specs.Words.{tab}
 use Rattle.laws.proofs.Turns.{tab-next}
-use Rattle.conflict.proofs.Tables.{filled}
 use Rattle.conflict.proofs.probes.Goals as goal
 
 pub loop-v-init : goal.loop-v-init
@@ -20,7 +19,3 @@ loop-v-preserved c =
       simp length-set (omega arith),
       tab-next h.out h.v _ c.probe_at.result (omega arith) h.invariant.2 c.probe_at.ensures,
     )
-
-pub returns : goal.returns
-returns c =
-    let h = c.loop-v in filled h.out h.v 65 _ h.invariant.1 h.invariant.2 c.loop-v-test.false h.invariant.0
