@@ -2,7 +2,7 @@
 -- end has no senders, as every place behind it, so that a reader that stays just behind the end reads what the meaning reads.
 use mathlib.Core.Path.{◌≡◌, refl, sym, ap, ap₂, ◌∙◌}
 use mathlib.Core.List.{List, [], ◌∷◌}
-use Prim.Native.Nat.{ℕ, zero, suc, ◌+◌, ◌-◌, ◌≤◌, ◌<◌, ◌^◌}
+use Prim.Native.Nat.{ℕ, zero, suc, ◌+◌, ◌-◌, ◌≤◌, ◌<◌}
 use native.Mathlib.Decide.{dec_le}
 use native.Mathlib.Omega.{arith}
 use lib.ListN.{length, get_or, take, drop_of_length-le}
@@ -39,16 +39,7 @@ behind-alike plan at many = go (dec_le at (length plan))
 -- a pass stands behind k slots, at a place and with what it has written, where what is left to note is what was to be noted
 pub record Standing (places plan : List ℕ) (many : ℕ) (book : List ℕ) (k at : ℕ) (written : List ℕ) : Type 0 where
   pub within : k ≤ many
-  pub fits : at < 2 ^ 64
-  pub long : length written ≡ length book
   pub left : noted_slots places (k + 1) (slots_from plan at (many - k)) written ≡ noted_slots places 1 (slots_from plan 2 many) book
-
--- a pass that stands somewhere
-pub record Pass (places plan : List ℕ) (many : ℕ) (book : List ℕ) : Type 0 where
-  pub k : ℕ
-  pub at : ℕ
-  pub written : List ℕ
-  pub stands : Standing places plan many book k at written
 
 -- what is to be noted of one slot more
 one-noted : (places plan : List ℕ) (k at more : ℕ) (written : List ℕ)
@@ -62,20 +53,18 @@ none_left places plan k at written = refl
 
 module _ (places plan : List ℕ) (many : ℕ) (book : List ℕ) where
   -- before the first slot
-  pub at_first : (at : ℕ) → at ≡ 2 → at < 2 ^ 64 → Standing places plan many book 0 at book
-  at_first at is fits = record {
+  pub at_first : (at : ℕ) → at ≡ 2 → Standing places plan many book 0 at book
+  at_first at is = record {
     within = omega arith;
-    fits = fits;
-    long = refl;
     left = ap₂ (λ (n m : ℕ). noted_slots places 1 (slots_from plan n m) book) is (omega arith);
   }
 
   module _ (k at : ℕ) (written : List ℕ) (stands : Standing places plan many book k at written) where
     -- behind one slot more
-    pub onward : k < many → (at' : ℕ) → at' ≡ (slot_at plan at).next → at' < 2 ^ 64
-        → (written' : List ℕ) → written' ≡ noted_slot places (k + 1) (senders_at plan at) written → length written' ≡ length written
+    pub onward : k < many → (at' : ℕ) → at' ≡ (slot_at plan at).next
+        → (written' : List ℕ) → written' ≡ noted_slot places (k + 1) (senders_at plan at) written
         → Standing places plan many book (k + 1) at' written'
-    onward less at' is fits written' noted long = record { within = omega arith; fits = fits; long = long ∙ stands.long; left = left' ∙ stands.left }
+    onward less at' is written' noted = record { within = omega arith; left = left' ∙ stands.left }
       where
         more : ℕ
         more = many - (k + 1)

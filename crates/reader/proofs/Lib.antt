@@ -1,5 +1,3 @@
 -- The proofs of this crate.
 pub mod NotingBytes
 pub mod BySlot
-pub mod Apart
-pub mod Again

@@ -73,7 +73,8 @@ pub struct Reader<'a> {
 
 // A reader at the first slot of a plan, which begins behind their number.
 fn open<'a>(plan: &'a [u8]) -> Reader<'a>
-    ensures { (result.plan ≡ plan.entry) × (result.at ≡ 2) }
+    ensures same_plan { result.plan.now ≡ plan.now }
+    ensures place { result.at ≡ 2 }
 {
     Reader { plan, at: 2 }
 }
@@ -87,7 +88,8 @@ fn senders<'a>(r: Reader<'a>) -> &'a [u8]
 
 // The reader behind that slot.
 fn behind<'a>(r: Reader<'a>) -> Reader<'a>
-    ensures { (result.plan ≡ r.entry.plan) × (result.at ≡ (slot_at r.entry.plan.now r.entry.at).next) }
+    ensures same_plan { result.plan.now ≡ r.entry.plan.now }
+    ensures place { result.at ≡ (slot_at r.entry.plan.now r.entry.at).next }
 {
     let here = slot::slot_at(r.plan, r.at);
     Reader {

@@ -5,7 +5,6 @@ use Rattle.meaning.specs.Sheet.{two_at}
 use Rattle.reader.specs.Noted.{two_set}
 use Rattle.reader.proofs.NotingBytes.{no_room, no-count, noted-there}
 use native.Mathlib.Omega.{arith}
-use borrow.Author.Rules.{rules}
 use Rattle.reader.proofs.note.Goals as goal
 
 pub returns-then-room-lt4 : goal.returns-then-room-lt4

@@ -4,7 +4,6 @@ use Prim.Native.Nat.{◌+◌, ◌*◌}
 use lib.ListN.{get_or}
 use Rattle.reader.specs.Noted.{noted}
 use Rattle.reader.proofs.NotingBytes.{no-sender, a-sender}
-use borrow.Author.Rules.{rules}
 use Rattle.reader.proofs.note_sender.Goals as goal
 
 pub returns-then-sender-ge65 : goal.returns-then-sender-ge65

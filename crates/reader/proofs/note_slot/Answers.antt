@@ -1,12 +1,10 @@
 -- `reader::note_slot` meets its contract. The invariant: the senders passed are noted. The measure is how many are left.
 use mathlib.Core.Path.{◌≡◌, refl}
-use Prim.Native.Nat.{◌-◌, ◌≤◌}
-use lib.ListN.{length, get_or}
+use lib.ListN.{length}
 use Rattle.meaning.specs.Words.{for_each}
-use Rattle.reader.specs.Noted.{noted_sender, noted_slot}
+use Rattle.reader.specs.Noted.{noted_slot}
 use Rattle.reader.proofs.NotingBytes.{sender-kept, sender-next}
 use native.Mathlib.Omega.{arith}
-use borrow.Author.Rules.{rules}
 use Rattle.reader.proofs.note_slot.Goals as goal
 
 pub loop-i-init : goal.loop-i-init

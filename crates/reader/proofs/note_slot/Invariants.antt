@@ -1,12 +1,9 @@
 -- `reader::note_slot` meets its contract. The invariant: the senders passed are noted. The measure is how many are left.
-use mathlib.Core.Path.{◌≡◌, refl}
+use mathlib.Core.Path.{◌≡◌}
 use Prim.Native.Nat.{◌-◌, ◌≤◌}
 use lib.ListN.{length, get_or}
 use Rattle.meaning.specs.Words.{for_each}
-use Rattle.reader.specs.Noted.{noted_sender, noted_slot}
-use Rattle.reader.proofs.NotingBytes.{sender-kept, sender-next}
-use native.Mathlib.Omega.{arith}
-use borrow.Author.Rules.{rules}
+use Rattle.reader.specs.Noted.{noted_sender}
 use Rattle.reader.proofs.note_slot.Given as goal
 
 abbrev pub invariant-loop-i : goal.invariant-loop-i
