@@ -1,17 +1,12 @@
 -- Laws of one line: what is wrong with it, and what stands after it, by what the code has tested.
 use mathlib.Core.Path.{◌≡◌, refl, sym, ap, ◌∙◌}
-use mathlib.Core.Bool.{Bool, true, false, cond, not, ◌&&◌, not-not}
-use mathlib.Core.List.{[], ◌∷◌}
-use mathlib.Core.Logic.{⊎_elim}
+use mathlib.Core.Bool.{Bool, true, false, cond, not, ◌&&◌}
 use Prim.Native.Nat.{ℕ, ◌≤◌}
 use native.Mathlib.Omega.{arith}
 use borrow.Author.Tests.{leb-true, eq-eqb, ne_eqb}
-use denote.Enum.Declared.{tag_of}
-use types.Run.{OneOf}
 use lib.Dec.{leb}
 use Rattle.meaning.specs.Words.{Bytes}
 use Rattle.laws.proofs.Slots.{and_right}
-use Rattle.graph.specs.contracts.Line as line
 use Rattle.graph.specs.declared.Line.{Line}
 use Rattle.graph.specs.declared.Line.TheVariants.{Comment, Problem, Edge, Other}
 use Rattle.graph.specs.declared.Reading.{Reading}
@@ -22,40 +17,33 @@ use Rattle.parse.specs.Vertices.{vertices_said}
 
 -- what holds of the three other lines holds of a line that is no edge, and of one that is no `p` line
 pub no_edge : (P : Line → Type 0) → P Comment → ((n m : ℕ) → P (Problem n m)) → P Other
-    → (l : Line) → OneOf (0 ∷ 1 ∷ 3 ∷ []) (tag_of line.the_type l) → P l
-no_edge P comment problem other Comment keys = comment
-no_edge P comment problem other (Problem n m) keys = problem n m
-no_edge P comment problem other (Edge a b) keys = absurd (⊎_elim (λ e. omega arith) (⊎_elim (λ e. omega arith) (λ e. omega arith)) keys)
-no_edge P comment problem other Other keys = other
+    → (l : Line) → ((a b : ℕ) → l ≡ Edge a b → ⊥) → P l
+no_edge P comment problem other Comment none = comment
+no_edge P comment problem other (Problem n m) none = problem n m
+no_edge P comment problem other (Edge a b) none = absurd (none a b refl)
+no_edge P comment problem other Other none = other
 
 pub no-problem : (P : Line → Type 0) → P Comment → ((a b : ℕ) → P (Edge a b)) → P Other
-    → (l : Line) → OneOf (0 ∷ 2 ∷ 3 ∷ []) (tag_of line.the_type l) → P l
-no-problem P comment edge other Comment keys = comment
-no-problem P comment edge other (Problem n m) keys = absurd (⊎_elim (λ e. omega arith) (⊎_elim (λ e. omega arith) (λ e. omega arith)) keys)
-no-problem P comment edge other (Edge a b) keys = edge a b
-no-problem P comment edge other Other keys = other
-
--- a flag whose denial fails is up
-not-down : (b : Bool) → not b ≡ false → b ≡ true
-not-down b e = sym (not-not b) ∙ ap not e
-
-not-up : (b : Bool) → not b ≡ true → b ≡ false
-not-up b e = sym (not-not b) ∙ ap not e
+    → (l : Line) → ((n m : ℕ) → l ≡ Problem n m → ⊥) → P l
+no-problem P comment edge other Comment none = comment
+no-problem P comment edge other (Problem n m) none = absurd (none n m refl)
+no-problem P comment edge other (Edge a b) none = edge a b
+no-problem P comment edge other Other none = other
 
 -- the number of a line
 module _ (now : Reading) (table : Table) (l : Line) (stands : Bool) (stands_is : stands ≡ may_stand now table l) where
-  pub gives-18 : not stands ≡ true → 18 ≡ line_test now table l
+  pub gives-18 : stands ≡ false → 18 ≡ line_test now table l
   unfolding line_test
-  gives-18 never = simp (sym stands_is ∙ not-up stands never)
+  gives-18 never = simp (sym stands_is ∙ never)
 
-  module _ (astray : Bool) (astray_is : astray ≡ is_astray now l) (may : not stands ≡ false) where
+  module _ (astray : Bool) (astray_is : astray ≡ is_astray now l) (may : stands ≡ true) where
     pub gives-19 : astray ≡ true → 19 ≡ line_test now table l
     unfolding line_test
-    gives-19 out = simp (sym stands_is ∙ not-down stands may, sym astray_is ∙ out)
+    gives-19 out = simp (sym stands_is ∙ may, sym astray_is ∙ out)
 
     pub gives-0 : astray ≡ false → 0 ≡ line_test now table l
     unfolding line_test
-    gives-0 in-range = simp (sym stands_is ∙ not-down stands may, sym astray_is ∙ in-range)
+    gives-0 in-range = simp (sym stands_is ∙ may, sym astray_is ∙ in-range)
 
 -- a line without a fault says at most 63 vertices
 pub few-said : (now : Reading) (table : Table) (l : Line) → line_test now table l ≡ 0 → vertices_said l ≤ 63

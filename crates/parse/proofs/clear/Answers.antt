@@ -4,12 +4,9 @@ use mathlib.Core.Bool.{false}
 use Rattle.meaning.specs.Words.{places}
 use Rattle.conflict.proofs.Tables.{no-marks}
 use Rattle.graph.specs.Table.{no_edges}
-use Rattle.parse.proofs.clear.Statement.{statement}
-use Rattle.parse.proofs.clear.Tie as tie
+use Rattle.parse.proofs.clear.Goals as goal
 
-returns : tie.Need-returns
+pub returns : goal.returns
 unfolding no_edges
-returns c = no-marks places (λ _ _. false) (λ _ _. refl)
-
-pub clear_spec : {M : Type 1} → statement M
-clear_spec = tie.close (tie.spec returns)
+returns c =
+    no-marks places (λ _ _. false) (λ _ _. refl)
