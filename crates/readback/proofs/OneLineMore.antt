@@ -1,7 +1,7 @@
 -- A text that grows by a line: what was read of it, and one line more.
 use mathlib.Core.Path.{◌≡◌, refl, sym, ap, ap₂, ◌∙◌}
 use mathlib.Core.List.{[], ◌∷◌, ◌++◌, append-nil}
-use Prim.Native.Nat.{ℕ, suc, ◌+◌, ◌<◌}
+use Prim.Native.Nat.{ℕ, suc, ◌+◌}
 use Rattle.meaning.specs.Words.{Bytes, for_each}
 use Rattle.laws.proofs.Turns.{for_each-one, for_each-same}
 use Rattle.graph.specs.Part.{newline, marks, part}
