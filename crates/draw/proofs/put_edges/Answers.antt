@@ -1,9 +1,5 @@
 -- `draw::put_edges` meets its contract. The invariant: the rows before x are put. The measure is how many rows are left.
-use mathlib.Core.Path.{◌≡◌, refl}
-use Prim.Native.Nat.{◌-◌, ◌≤◌}
-use lib.ListN.{length}
-use Rattle.lines.specs.Fits.{Fits}
-use Rattle.graph.specs.Drawing.{texts, row_text}
+use mathlib.Core.Path.{refl}
 use Rattle.graph.proofs.TextsPut.{texts-start, texts-next, texts-all}
 use native.Mathlib.Omega.{arith}
 use borrow.Author.Rules.{rules}
@@ -15,13 +11,8 @@ loop-x-init c =
 
 pub loop-x-preserved : goal.loop-x-preserved
 loop-x-preserved c =
-    let put = c in
-    let turn = put.loop-x in
-    (omega arith, search rules, texts-next turn.x _ turn.invariant.2 put.put_row-end.ensures)
-
-pub shape_of-out : goal.shape_of-out
-shape_of-out c =
-    c.loop-x.invariant.1
+    let turn = c.loop-x in
+    (omega arith, search rules, texts-next turn.x _ turn.invariant.2 c.put_row-end.ensures)
 
 pub returns : goal.returns
 returns c =

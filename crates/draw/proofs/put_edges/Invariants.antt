@@ -1,12 +1,9 @@
 -- `draw::put_edges` meets its contract. The invariant: the rows before x are put. The measure is how many rows are left.
-use mathlib.Core.Path.{◌≡◌, refl}
+use mathlib.Core.Path.{◌≡◌}
 use Prim.Native.Nat.{◌-◌, ◌≤◌}
 use lib.ListN.{length}
 use Rattle.lines.specs.Fits.{Fits}
 use Rattle.graph.specs.Drawing.{texts, row_text}
-use Rattle.graph.proofs.TextsPut.{texts-start, texts-next, texts-all}
-use native.Mathlib.Omega.{arith}
-use borrow.Author.Rules.{rules}
 use Rattle.draw.proofs.put_edges.Given as goal
 
 abbrev pub invariant-loop-x : goal.invariant-loop-x

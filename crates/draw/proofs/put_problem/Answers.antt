@@ -1,5 +1,4 @@
 -- `draw::put_problem` meets its contract: the parts of the line are put one behind the other.
-use borrow.Author.Rules.{rules}
 use Rattle.meaning.specs.Lister.{text}
 use Rattle.lines.proofs.Fitting.{put_whole, put-behind}
 use Rattle.graph.specs.Drawing.{problem_line}
@@ -8,7 +7,4 @@ use Rattle.draw.proofs.put_problem.Goals as goal
 pub returns : goal.returns
 unfolding text problem_line
 returns c =
-    let last = c in
-    let second = last in
-    let first = second in
-    put-behind (put-behind (put_whole first.put_counted-first.ensures) (put_whole second.put_counted-second.ensures)) (put_whole last.put_words.ensures)
+    put-behind (put-behind (put_whole c.put_counted-first.ensures) (put_whole c.put_counted-second.ensures)) (put_whole c.put_words.ensures)

@@ -2,9 +2,8 @@
 use mathlib.Core.Path.{◌≡◌, refl, ap₂}
 use mathlib.Core.Bool.{cond, ◌&&◌}
 use mathlib.Core.List.{List, []}
-use Prim.Native.Nat.{ℕ, ◌+◌, ◌-◌, ◌≤◌}
+use Prim.Native.Nat.{ℕ, ◌+◌, ◌-◌}
 use lib.Dec.{ltb}
-use lib.ListN.{length}
 use Rattle.meaning.specs.Conflict.{entry}
 use Rattle.lines.specs.Fits.{Fits}
 use Rattle.lines.proofs.Fitting.{put_same}
@@ -29,16 +28,9 @@ loop-y-init c =
 
 pub loop-y-preserved : goal.loop-y-preserved
 loop-y-preserved c =
-    let put = c in
-    let read = put in
-    let start = read.args in
-    let turn = read.loop-y in
-    let next = row_next start.table.now start.x turn.y _ _ turn.invariant.2 read.vertex.ensures turn.invariant.3 put.put_edge-end.ensures in
+    let turn = c.loop-y in
+    let next = row_next c.args.table.now c.args.x turn.y _ _ turn.invariant.2 c.vertex.ensures turn.invariant.3 c.put_edge-end.ensures in
     (omega arith, search rules, turn.invariant.2, next)
-
-pub shape_of-out : goal.shape_of-out
-shape_of-out c =
-    c.loop-y.invariant.1
 
 pub returns : goal.returns
 unfolding row_text

@@ -1,18 +1,9 @@
 -- `draw::put_row` meets its contract. The invariant: what stands before place y of the row is put. The measure is what is left of the row.
-use mathlib.Core.Path.{◌≡◌, refl, ap₂}
-use mathlib.Core.Bool.{cond, ◌&&◌}
-use mathlib.Core.List.{List, []}
-use Prim.Native.Nat.{ℕ, ◌+◌, ◌-◌, ◌≤◌}
-use lib.Dec.{ltb}
+use mathlib.Core.Path.{◌≡◌}
+use Prim.Native.Nat.{◌-◌, ◌≤◌}
 use lib.ListN.{length}
-use Rattle.meaning.specs.Conflict.{entry}
 use Rattle.lines.specs.Fits.{Fits}
-use Rattle.lines.proofs.Fitting.{put_same}
-use Rattle.graph.specs.Table.{Table}
-use Rattle.graph.specs.Drawing.{texts, edge_line, edge_text, row_text}
-use Rattle.graph.proofs.TextsPut.{texts-start, texts-next, texts-all}
-use native.Mathlib.Omega.{arith}
-use borrow.Author.Rules.{rules}
+use Rattle.graph.specs.Drawing.{texts, edge_text}
 use Rattle.draw.proofs.put_row.Given as goal
 
 abbrev pub invariant-loop-y : goal.invariant-loop-y

@@ -1,5 +1,4 @@
 -- `draw::put_table` meets its contract: the edges are put behind the line that counts them.
-use borrow.Author.Rules.{rules}
 use mathlib.Core.Path.{ap}
 use Prim.Native.Nat.{ℕ}
 use Rattle.lines.proofs.Fitting.{put-behind, put_same}
@@ -9,8 +8,4 @@ use Rattle.draw.proofs.put_table.Goals as goal
 pub returns : goal.returns
 unfolding table_text
 returns c =
-    let rows = c in
-    let problem = rows in
-    let count = problem in
-    put-behind (put_same (ap (λ (k : ℕ). problem_line count.args.vertices k) count.edges.ensures) problem.put_problem-next.ensures)
-    rows.put_edges.ensures
+    put-behind (put_same (ap (λ (k : ℕ). problem_line c.args.vertices k) c.edges.ensures) c.put_problem-next.ensures) c.put_edges.ensures
