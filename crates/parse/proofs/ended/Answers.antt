@@ -8,8 +8,11 @@ returns-then-read-ne0 c =
 
 pub returns-then-number-ne0 : goal.returns-then-number-ne0
 returns-then-number-ne0 c =
-    let all = let tested = c in
-    end-refuses _ _ _ _ c.refused-then-number-ne0.ensures.table _ tested.end_test-number.ensures tested.if-read-ne0.false c.if-number-ne0.true c.refused-then-number-ne0.ensures.answer in record { answer = all.0; table = all.1 }
+    let all =
+    end-refuses _ _ _ _ c.refused-then-number-ne0.ensures.table _ c.end_test-number.ensures c.if-read-ne0.false c.if-number-ne0.true
+    c.refused-then-number-ne0.ensures.answer
+    in
+    record { answer = all.0; table = all.1 }
 
 pub returns : goal.returns
 returns c =
