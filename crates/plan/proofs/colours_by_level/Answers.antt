@@ -1,9 +1,6 @@
 -- `plan::colours_by_level` meets its contract: before place v the colours are looked up.
 use mathlib.Core.Path.{refl}
-use Prim.Native.Nat.{◌-◌}
-use lib.ListN.{get_or}
-use Rattle.laws.proofs.Lists.{Becoming, becoming-start, becoming-next, becoming-whole}
-use borrow.Author.Rules.{rules}
+use Rattle.laws.proofs.Lists.{becoming-start, becoming-next, becoming-whole}
 use Rattle.plan.proofs.colours_by_level.Goals as goal
 
 pub loop-v-init : goal.loop-v-init

@@ -9,37 +9,33 @@ use Rattle.plan.specs.TurnByTurn.{goes_by, way_by, from, Going, held_by}
 use Rattle.plan.proofs.TurnByTurn.{part-from}
 use Rattle.plan.proofs.Filling.{filled, slots-most}
 use native.Mathlib.Omega.{arith}
-use borrow.Author.Rules.{rules}
 use Rattle.plan.proofs.fill.Goals as goal
 
 pub run-made-requires : goal.run-made-requires
 run-made-requires c =
-    let start = c in
-    let a = start.args in
+    let a = c.args in
     let room : length a.buf.now - 2 ≡ length (take (length a.buf.now - 2) (drop 2 a.buf.now)) =
     sym (length-drop 2 a.buf.now) ∙ ap length (sym (part-from a.buf.now 2))
     in
     let first = c.first_held-held in
-    subst₂ (λ (h : List ℕ) (r : ℕ). Ready a.way.probes (goes_by a.way) h r) (sym first.ensures) room start.requires.ready
+    subst₂ (λ (h : List ℕ) (r : ℕ). Ready a.way.probes (goes_by a.way) h r) (sym first.ensures) room c.requires.ready
 
 pub bounds-buf-1 : goal.bounds-buf-1
 bounds-buf-1 c =
-    let start = c in
-    simp length-set (omega (arith, start.requires.two, c.buf-1.given))
+    simp length-set (omega (arith, c.requires.two))
 
 pub returns : goal.returns
 returns c =
-    let start = c in
-    let a = start.args in
+    let a = c.args in
     let by = a.way in
-    let way = way_by by a.t3 in
+    let way = way_by by a.table in
     let run = c.run-made in
     let made = run.result in
     let first = held_by by.mode by.probes a.packets in
-    let last : List ℕ = run.new.1.1.1.0 in
-    let part : List ℕ = run.new.1.1.1.1.0 in
-    let most = slots-most by a.t3 first (length a.buf.now - 2) a.sendings start.requires.ready in
-    filled by.probes (goes_by by) (rounds way a.sendings (from first)) last a.buf.now part made.bytes made.slots start.requires.two
-    (omega (arith, start.requires.few, most))
+    let last : List ℕ = run.new.held in
+    let part : List ℕ = run.new.rest in
+    let most = slots-most by a.table first (length a.buf.now - 2) a.sendings c.requires.ready in
+    filled by.probes (goes_by by) (rounds way a.sendings (from first)) last a.buf.now part made.bytes made.slots c.requires.two
+    (omega (arith, c.requires.few, most))
     (subst₂ (λ (lent held : List ℕ). Going by.probes (goes_by by) (rounds way a.sendings (from held)) last lent part made.bytes made.slots)
     (part-from a.buf.now 2) c.first_held-held.ensures run.ensures)

@@ -8,7 +8,6 @@ use Rattle.meaning.specs.Answer.{accepted}
 use Rattle.plan.specs.TurnByTurn.{code_way, held_by, slots_by, Filled}
 use Rattle.plan.specs.Answered.{Finished}
 use native.Mathlib.Omega.{arith}
-use borrow.Author.Rules.{rules}
 use Rattle.plan.proofs.finish.Goals as goal
 
 -- a plan that is written is answered for

@@ -8,14 +8,14 @@ use Rattle.meaning.specs.Plan.{front}
 use Rattle.meaning.specs.Rounds.{Way}
 use Rattle.meaning.specs.Answer.{plan_made_in}
 use Rattle.plan.proofs.Answered.{of-readings}
-use borrow.Author.Rules.{rules}
 use Rattle.plan.proofs.merged.Goals as goal
 
 pub returns : goal.returns
 returns c =
-    let all = let a = c.args in
+    let a = c.args in
     let made = c.by_probe_in.ensures in
-    let room = length a.buf.now in (
-      made.0 ∙ ap (λ (by : List ℕ → Way). (plan_made_in Merged by a.sheet.now room).answer) of-readings,
-      made.1 ∙ ap (λ (by : List ℕ → Way). front a.buf.now (plan_made_in Merged by a.sheet.now room).written) of-readings,
-    ) in record { answer = all.0; buffer = all.1 }
+    let room = length a.buf.now in
+    record {
+      answer = made.answer ∙ ap (λ (by : List ℕ → Way). (plan_made_in Merged by a.sheet.now room).answer) of-readings;
+      buffer = made.buffer ∙ ap (λ (by : List ℕ → Way). front a.buf.now (plan_made_in Merged by a.sheet.now room).written) of-readings;
+    }

@@ -1,5 +1,4 @@
 -- `plan::prepare` meets its contract: the tree that was read, with the outcome that the room gave.
-use borrow.Author.Rules.{rules}
 use Rattle.plan.proofs.Preparing.{prepares}
 use Rattle.plan.proofs.prepare.Goals as goal
 

@@ -3,7 +3,6 @@ use mathlib.Core.Path.{sym}
 use borrow.Author.Tests.{ne_eqb}
 use Rattle.laws.proofs.Accepted.{then-stays}
 use Rattle.plan.proofs.Preparing.{room-short, room-enough}
-use borrow.Author.Rules.{rules}
 use Rattle.plan.proofs.room_test.Goals as goal
 
 pub returns-then-outcome-ne0 : goal.returns-then-outcome-ne0

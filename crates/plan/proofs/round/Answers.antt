@@ -1,6 +1,6 @@
 -- `plan::round` meets its contract: the first s colours have had their turn, and each slot stands behind the one before.
 use mathlib.Core.Path.{◌≡◌, refl, sym, ap, ◌∙◌, subst}
-use Prim.Native.Nat.{ℕ, ◌-◌, ◌≤◌}
+use Prim.Native.Nat.{ℕ, ◌-◌}
 use lib.ListN.{length, take, drop, length-drop}
 use Rattle.meaning.specs.Words.{by_node}
 use Rattle.meaning.specs.Rounds.{Progress, goes_in}
@@ -38,27 +38,17 @@ turn-bytes-requires c =
 
 pub overflow_add-at : goal.overflow_add-at
 overflow_add-at c =
-    let turn = c in
-    let loop = turn in
-    let next = going_next _ _ _ _ _ _ _ _ _ loop.loop-s.invariant.1 _ _ _ turn.turn-bytes.ensures _ refl in
-    omega (arith, next.within, loop.well-formed.1.1.1.1.1.1.1.0.0)
+    let next = going_next _ _ _ _ _ _ _ _ _ c.loop-s.invariant.1 _ _ _ c.turn-bytes.ensures _ refl in
+    omega (arith, next.within)
 
 pub overflow_add-slots : goal.overflow_add-slots
 overflow_add-slots c =
-    let turn = c in
-    let loop = turn in
-    let next = going_next _ _ _ _ _ _ _ _ _ loop.loop-s.invariant.1 _ _ _ turn.turn-bytes.ensures _ c.slots_in-slots.ensures in
-    omega (arith, next.within, next.fewer, loop.well-formed.1.1.1.1.1.1.1.0.0)
+    let next = going_next _ _ _ _ _ _ _ _ _ c.loop-s.invariant.1 _ _ _ c.turn-bytes.ensures _ c.slots_in-slots.ensures in
+    omega (arith, next.within, next.fewer)
 
 pub loop-s-preserved : goal.loop-s-preserved
 loop-s-preserved c =
-    let turn = c in
-    let loop = turn in
-    (search rules, going_next _ _ _ _ _ _ _ _ _ loop.loop-s.invariant.1 _ _ _ turn.turn-bytes.ensures _ c.slots_in-slots.ensures)
-
-pub shape_of-rest : goal.shape_of-rest
-shape_of-rest c =
-    going-long c.loop-s.invariant.1
+    (search rules, going_next _ _ _ _ _ _ _ _ _ c.loop-s.invariant.1 _ _ _ c.turn-bytes.ensures _ c.slots_in-slots.ensures)
 
 pub returns : goal.returns
 returns c =

@@ -1,14 +1,9 @@
 -- `plan::round` meets its contract: the first s colours have had their turn, and each slot stands behind the one before.
-use mathlib.Core.Path.{◌≡◌, refl, sym, ap, ◌∙◌, subst}
-use Prim.Native.Nat.{ℕ, ◌-◌, ◌≤◌}
-use lib.ListN.{length, take, drop, length-drop}
+use Prim.Native.Nat.{◌-◌, ◌≤◌}
 use Rattle.meaning.specs.Words.{by_node}
-use Rattle.meaning.specs.Rounds.{Progress, goes_in}
-use Rattle.plan.specs.ColourTurn.{Ready}
+use Rattle.meaning.specs.Rounds.{goes_in}
 use Rattle.plan.specs.TurnByTurn.{code_way, Going}
-use Rattle.plan.proofs.TurnByTurn.{turns, turns-all, going_start, going_next, going-long, part-from}
-use native.Mathlib.Omega.{arith}
-use borrow.Author.Rules.{rules}
+use Rattle.plan.proofs.TurnByTurn.{turns}
 use Rattle.plan.proofs.round.Given as goal
 
 abbrev pub invariant-loop-s : goal.invariant-loop-s

@@ -1,9 +1,8 @@
 -- `plan::run` meets its contract: r rounds are made, and while anything is outside another one follows.
 use mathlib.Core.Path.{◌≡◌, sym, ap, ◌∙◌, subst}
-use mathlib.Core.Bool.{Bool, true, false}
+use mathlib.Core.Bool.{Bool, false}
 use mathlib.Core.List.{List}
-use Prim.Native.Nat.{ℕ, ◌+◌, ◌-◌, ◌≤◌}
-use borrow.Author.Tests.{not-true, not-false}
+use Prim.Native.Nat.{ℕ, ◌-◌, ◌≤◌}
 use lib.ListN.{length, take, drop, length-drop}
 use Rattle.meaning.specs.Rounds.{Progress, outside, rounds}
 use Rattle.laws.specs.Few.{at_most63}
@@ -22,22 +21,16 @@ within-yard p held r small e = e ∙ ap (λ (n : ℕ). outside n held) (as_many 
 pub loop-r-init : goal.loop-r-init
 loop-r-init c =
     let a = c.args in
-    (search rules, rounds-start a.t1 a.table.now a.held.now a.rest.now c.requires)
-
-pub shape_of-rest-then-not-any_outside : goal.shape_of-rest-then-not-any_outside
-shape_of-rest-then-not-any_outside c =
-    going-long c.loop-r.invariant.1
+    (search rules, rounds-start a.way a.table.now a.held.now a.rest.now c.requires)
 
 pub returns-then-not-any_outside : goal.returns-then-not-any_outside
 returns-then-not-any_outside c =
-    let loop = c in
-    let start = loop in
-    let a = start.args in
-    let way = a.t1 in
-    let l = loop.loop-r in
-    let none = within-yard way.probes l.held _ start.requires.small c.any_outside.ensures in
+    let a = c.args in
+    let way = a.way in
+    let l = c.loop-r in
+    let none = within-yard way.probes l.held _ c.requires.small c.any_outside.ensures in
     let home : outside way.probes (rounds (way_by way a.table.now) l.r (from a.held.now)).held ≡ false =
-    subst (λ (h : List ℕ). outside way.probes h ≡ false) l.invariant.1.holding (sym none ∙ not-true c.any_outside.result c.if-not-any_outside.true)
+    subst (λ (h : List ℕ). outside way.probes h ≡ false) l.invariant.1.holding (sym none ∙ c.if-not-any_outside.true)
     in
     subst (λ (now : Progress). Going way.probes (goes_by way) now l.held a.rest.now l.rest l.at l.slots)
     (sym (rounds-stop way a.table.now l.r a.sendings a.held.now l.invariant.0 home)) l.invariant.1
@@ -54,65 +47,38 @@ slice_bounds-round-start c =
 
 pub round-more-requires : goal.round-more-requires
 round-more-requires c =
-    let loop = c in
-    let a = loop.args in
-    let l = loop.loop-r in
+    let a = c.args in
+    let l = c.loop-r in
     let room : length a.rest.now - l.at ≡ length (take (length l.rest - l.at) (drop l.at l.rest)) =
     ap (λ (n : ℕ). n - l.at) (sym (going-long l.invariant.1)) ∙ sym (length-drop l.at l.rest) ∙ ap length (sym (part-from l.rest l.at))
     in
-    subst (λ (r : ℕ). Ready a.t1.probes (goes_by a.t1) l.held r) room l.invariant.1.ready
-
--- where a round follows, something is outside
-still-outside : (c : tie.Else1 invariant-loop decreases-loop)
-    → let loop = c.before.before.before.before in
-    outside loop.before.before.args.t1.probes loop.loop.held ≡ true
-still-outside c =
-    let loop = c.before.before.before.before in
-    let start = loop.before.before in
-    let looked = c.before.any-outside in
-    sym (within-yard start.args.t1.probes loop.loop.held _ start.requires.small looked.ensures) ∙ not-false looked.result c.if1.false
-
--- what a round adds ends within the buffer, and a buffer's length is a number of the machine's
-round-adds : (c : tie.After-round invariant-loop decreases-loop)
-    → let l = c.before.before.before.before.before.before.before.before.before.before.loop in
-    (l.at + c.round.result.bytes ≤ 18446744073709551615) × (l.slots + c.round.result.slots ≤ 18446744073709551615)
-round-adds c =
-    let left = c.before.before.before.before.before.before in
-    let loop = left.before.before.before.before in
-    let start = loop.before.before in
-    let a = start.args in
-    let next =
-    going-round a.t1 a.table.now loop.loop.r a.held.now _ _ _ _ _ loop.loop.invariant.1 (still-outside left) _ _ _ _ c.round.ensures
-    in
-    let most = start.well-formed.1.1.1.1.0.0 in
-    (omega (arith, next.within, most), omega (arith, next.within, next.fewer, most))
+    subst (λ (r : ℕ). Ready a.way.probes (goes_by a.way) l.held r) room l.invariant.1.ready
 
 pub overflow_add-at : goal.overflow_add-at
 overflow_add-at c =
-    omega (arith, (round-adds c).0)
+    let a = c.args in
+    let out = sym (within-yard a.way.probes c.loop-r.held _ c.requires.small c.any_outside.ensures) ∙ c.if-not-any_outside.false in
+    let next = going-round a.way a.table.now c.loop-r.r a.held.now _ _ _ _ _ c.loop-r.invariant.1 out _ _ _ _ c.round-more.ensures in
+    omega (arith, next.within)
 
 pub overflow_add-slots : goal.overflow_add-slots
 overflow_add-slots c =
-    omega (arith, (round-adds c).1)
+    let a = c.args in
+    let out = sym (within-yard a.way.probes c.loop-r.held _ c.requires.small c.any_outside.ensures) ∙ c.if-not-any_outside.false in
+    let next = going-round a.way a.table.now c.loop-r.r a.held.now _ _ _ _ _ c.loop-r.invariant.1 out _ _ _ _ c.round-more.ensures in
+    omega (arith, next.within, next.fewer)
 
 pub loop-r-preserved : goal.loop-r-preserved
 loop-r-preserved c =
-    let round = c in
-    let left = round in
-    let loop = left in
-    let a = loop.args in (
-      search rules,
-      going-round a.t1 a.table.now loop.loop-r.r a.held.now _ _ _ _ _ loop.loop-r.invariant.1 (still-outside left) _ _ _ _ round.round-more.ensures,
-    )
-
-pub shape_of-rest : goal.shape_of-rest
-shape_of-rest c =
-    going-long c.loop-r.invariant.1
+    let a = c.args in
+    let out = sym (within-yard a.way.probes c.loop-r.held _ c.requires.small c.any_outside.ensures) ∙ c.if-not-any_outside.false in
+    let next = going-round a.way a.table.now c.loop-r.r a.held.now _ _ _ _ _ c.loop-r.invariant.1 out _ _ _ _ c.round-more.ensures in
+    (search rules, next)
 
 pub returns : goal.returns
 returns c =
     let a = c.args in
-    let way = a.t1 in
+    let way = a.way in
     let l = c.loop-r in
     let all : l.r ≡ a.sendings = omega (arith, l.invariant.0) in
     let after : ℕ → Progress = λ n. rounds (way_by way a.table.now) n (from a.held.now) in

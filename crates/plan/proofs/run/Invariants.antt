@@ -1,18 +1,7 @@
 -- `plan::run` meets its contract: r rounds are made, and while anything is outside another one follows.
-use mathlib.Core.Path.{◌≡◌, sym, ap, ◌∙◌, subst}
-use mathlib.Core.Bool.{Bool, true, false}
-use mathlib.Core.List.{List}
-use Prim.Native.Nat.{ℕ, ◌+◌, ◌-◌, ◌≤◌}
-use borrow.Author.Tests.{not-true, not-false}
-use lib.ListN.{length, take, drop, length-drop}
-use Rattle.meaning.specs.Rounds.{Progress, outside, rounds}
-use Rattle.laws.specs.Few.{at_most63}
-use Rattle.laws.proofs.Few.{as_many}
-use Rattle.plan.specs.ColourTurn.{Ready}
+use Prim.Native.Nat.{◌-◌, ◌≤◌}
+use Rattle.meaning.specs.Rounds.{rounds}
 use Rattle.plan.specs.TurnByTurn.{goes_by, way_by, from, Going}
-use Rattle.plan.proofs.TurnByTurn.{rounds-start, rounds-stop, going-round, going-long, part-from}
-use native.Mathlib.Omega.{arith}
-use borrow.Author.Rules.{rules}
 use Rattle.plan.proofs.run.Given as goal
 
 abbrev pub invariant-loop-r : goal.invariant-loop-r
