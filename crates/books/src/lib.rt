@@ -1,8 +1,7 @@
 // Wake books by the program's arguments: a plan's book written to a file, or said in words, a line for each probe.
 #![tactic(auto)]
 
-ghost use Rattle.std.specs.Prelude.{◌≡◌, length, replicate};
-ghost use Rattle.io.specs.Counts.{IsPrefixLen};
+ghost use Rattle.std.specs.Prelude.{◌≡◌, ◌≤◌, length, replicate};
 ghost use Rattle.meaning.specs.Book.{any_book, book_made};
 ghost use Rattle.files.specs.Status.{status_of, OrFailed};
 
@@ -53,7 +52,7 @@ pub fn write_book(rt: &HostRuntime, to: Stream, out: usize, sheet: &[u8], plan: 
 
 // Puts the line of each probe of a book at the start of a text; says where they end.
 fn put_lines(book: &[u8], text: &mut [u8]) -> usize
-    ensures { IsPrefixLen result text.new }
+    ensures { result ≤ length text.new }
 {
     let mut at = 0;
     let mut end = 0;

@@ -1,2 +1,1 @@
 -- Laws that the functions' proofs cite.
-pub mod Names

@@ -1,5 +1,5 @@
--- What is answered where the operating system decides: the exit status, and a file's descriptor.
-use Rattle.std.specs.Prelude.{◌≡◌, cond, ◌⊎◌, ℕ, eqb, ℤ, pos, negsuc}
+-- What is answered where the operating system decides: the exit status.
+use Rattle.std.specs.Prelude.{◌≡◌, cond, ◌⊎◌, ℕ, eqb}
 use Rattle.meaning.specs.declared.Outcome.{Outcome}
 
 -- the exit status, a digit: answered, refused, or not answered at all
@@ -26,8 +26,3 @@ IsStatus r = (r ≡ answered) ⊎ ((r ≡ refused) ⊎ (r ≡ failed))
 -- a status, unless the system fails
 abbrev pub OrFailed : (status r : ℕ) → Type 0
 OrFailed status r = (r ≡ status) ⊎ (r ≡ failed)
-
--- what an opened file is known by: -1 where it could not be opened, else no negative number
-abbrev pub Descriptor : ℤ → Type 0
-Descriptor (pos k) = Unit {0}
-Descriptor (negsuc k) = k ≡ 0

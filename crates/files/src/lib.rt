@@ -2,9 +2,8 @@
 // what is said about them, and the exit status.
 #![tactic(auto)]
 
-ghost use Rattle.std.specs.Prelude.{◌≡◌, ◌+◌, min, length, replicate, IfSome};
+ghost use Rattle.std.specs.Prelude.{◌≡◌, ◌+◌, ◌≤◌, min, length, replicate, IfSome};
 ghost use Rattle.std.proofs.lemmas.List.Edits.{sets};
-ghost use Rattle.io.specs.Counts.{IsPrefixLen};
 ghost use Rattle.meaning.specs.Plan.{deciding_plan};
 ghost use Rattle.meaning.specs.Lister.{any_text};
 ghost use Rattle.lines.specs.Line.{fitting};
@@ -80,7 +79,7 @@ pub fn name_room() -> [u8; ANY_NAME]
 // As many bytes as were answered; never more than buf has, which the answers' contracts give as well.
 pub fn within(n: usize, buf: &[u8]) -> usize
     ensures answer { result ≡ min n (length buf.now) }
-    ensures part { IsPrefixLen result buf.now }
+    ensures part { result ≤ length buf.now }
 {
     if n < buf.len() { n } else { buf.len() }
 }
@@ -172,7 +171,7 @@ fn flatten(name: &mut [u8])
 fn shown(path: &[u8], name: &mut [u8]) -> usize
     ensures answer { result ≡ length (fitting name.old 0 path.now) }
     ensures buffer { name.new ≡ flattened (sets name.old 0 (fitting name.old 0 path.now)) }
-    ensures part { IsPrefixLen result name.new }
+    ensures part { result ≤ length name.new }
 {
     let n = lines::put_words(path, name, 0);
     flatten(name);
@@ -262,7 +261,7 @@ pub fn arg_count(rt: &HostRuntime) -> usize {
 
 // Puts argument i into a word; says how long it is, or nothing where there is none or it is too long.
 pub fn arg(rt: &HostRuntime, i: usize, word: &mut [u8]) -> Option<usize>
-    ensures { IfSome result (λ n. IsPrefixLen n word.new) }
+    ensures { IfSome result (λ n. n ≤ length word.new) }
 {
     let Ok(n) = rt.arg(i, word) else {
         return None;
@@ -301,7 +300,7 @@ pub struct Got {
 
 // Reads until a buffer is full, a file ends or reading it fails.
 pub fn read_full(from: &mut Source, buf: &mut [u8]) -> Got
-    ensures { IsPrefixLen result.bytes buf.new }
+    ensures { result.bytes ≤ length buf.new }
 {
     let mut done = 0;
     let mut failed = None;
@@ -348,8 +347,8 @@ pub fn open_named(rt: &HostRuntime, to: Stream, path: &[u8]) -> Option<Source> {
 
 // How many bytes of a buffer were read, unless they could not be.
 fn if_read(is_read: bool, n: usize, buf: &[u8]) -> Option<usize>
-    requires { IsPrefixLen n buf.now }
-    ensures { IfSome result (λ m. IsPrefixLen m buf.now) }
+    requires { n ≤ length buf.now }
+    ensures { IfSome result (λ m. m ≤ length buf.now) }
 {
     if is_read { Some(n) } else { None }
 }
@@ -362,7 +361,7 @@ fn say_too_long(rt: &HostRuntime, to: Stream, word: &[u8]) {
 
 // Puts the name that argument i is into path; says how long it is, or that it is too long.
 pub fn name_to_read(rt: &HostRuntime, to: Stream, i: usize, path: &mut [u8]) -> Option<usize>
-    ensures { IfSome result (λ n. IsPrefixLen n path.new) }
+    ensures { IfSome result (λ n. n ≤ length path.new) }
 {
     let n = arg(rt, i, path);
     if n.is_none() {
@@ -373,7 +372,7 @@ pub fn name_to_read(rt: &HostRuntime, to: Stream, i: usize, path: &mut [u8]) -> 
 
 // Reads the file that argument i names into buf; answers how many bytes, or nothing after saying that it cannot be read.
 pub fn read_file(rt: &HostRuntime, to: Stream, i: usize, buf: &mut [u8]) -> Option<usize>
-    ensures { IfSome result (λ n. IsPrefixLen n buf.new) }
+    ensures { IfSome result (λ n. n ≤ length buf.new) }
 {
     let mut path = name_room();
     let n = name_to_read(rt, to, i, &mut path)?;

@@ -1,8 +1,7 @@
 // Graphs by the program's arguments: a sheet's graph written as text, and a text of any length judged line by line and shown as a table.
 #![tactic(auto)]
 
-ghost use Rattle.std.specs.Prelude.{◌≡◌};
-ghost use Rattle.io.specs.Counts.{IsPrefixLen};
+ghost use Rattle.std.specs.Prelude.{◌≡◌, ◌≤◌, length};
 ghost use Rattle.graph.specs.Drawing.{graph_made};
 ghost use Rattle.files.specs.Status.{answered, failed, number_status, status_of, OrFailed, IsStatus};
 
@@ -59,7 +58,7 @@ fn keep(piece: &mut [u8], from: usize) -> usize {
 
 // Reads behind what was kept of a piece; says how many bytes stand in it then.
 fn fill(from: &mut Source, piece: &mut [u8], kept: usize) -> Got
-    ensures { IsPrefixLen result.bytes piece.new }
+    ensures { result.bytes ≤ length piece.new }
 {
     if piece.len() < kept {
         return Got {
