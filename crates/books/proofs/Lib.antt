@@ -1,2 +1,0 @@
--- The proofs of this crate.
-pub mod BookStatus
