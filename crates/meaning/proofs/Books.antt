@@ -1,7 +1,7 @@
 -- RULES, "The wake book": the books that are proved, as rows of one table under one claim, computed from the definitions as those of `Yards` are.
 use mathlib.Core.Bool.{Bool, true, ◌&&◌}
 use mathlib.Core.List.{List, [], ◌∷◌, ◌++◌}
-use Prim.Native.Nat.{ℕ, ◌+◌}
+use Prim.Native.Nat.{ℕ}
 use Prim.Native.String.{String}
 use lib.Dec.{T}
 use lib.ListN.{length, replicate}
