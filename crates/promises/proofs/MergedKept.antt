@@ -1,5 +1,5 @@
 -- What is promised of merged readings: the planner's answer by the laws of any way, the judge by its exactness, and the limits by those of our plan and of good plans.
-use mathlib.Core.Path.{◌≡◌, ◌∙◌}
+use mathlib.Core.Path.{◌≡◌}
 use mathlib.Core.List.{List}
 use Prim.Native.Nat.{ℕ, ◌*◌, ◌≤◌}
 use lib.ListN.{take}
@@ -12,7 +12,7 @@ use Rattle.meaning.specs.Rounds.{merged}
 use Rattle.meaning.specs.Answer.{accepted, sheet_test, refused_plan, merged_made}
 use Rattle.meaning.specs.Judge.{judge_in, judgement_in}
 use Rattle.meaning.specs.Merged.{MergedGood, merged_asked}
-use Rattle.laws.proofs.Own.{merged_plan}
+use Rattle.laws.proofs.Own.{merged_plan as own_merged}
 use Rattle.laws.proofs.MergedExact.{merged-passed-good}
 use Rattle.limits.proofs.Deciding.{plan-made-decided}
 use Rattle.limits.proofs.DecidingPlan.{merged-plan-decided, merged-plan-judgement-decided}
@@ -25,7 +25,7 @@ use Rattle.promises.proofs.Bytes.{bytes_below}
 
 module _ (s buffer : Bytes) where
   pub merges : Accepted s → MergedRoom s buffer → AnswersIn Merged merged s buffer (counted_in Merged merged s) (front buffer (plan_bytes (merged_slots s)))
-  merges ok room = is-planned Merged merged s buffer (merged_plan s ok) ok room
+  merges ok room = is-planned Merged merged s buffer (own_merged s ok) ok room
 
   pub merges-nothing : Refused s → AnswersIn Merged merged s buffer (refused_plan (sheet_test s)) buffer
   merges-nothing refused = sheet-refused Merged merged s buffer refused
@@ -35,7 +35,7 @@ module _ (s buffer : Bytes) where
 
   pub merged-passes : Accepted s → MergedRoom s buffer
       → judge_in Merged s (merged_plan s buffer) ≡ record { outcome = accepted; slots = (merged_answer s buffer).slots }
-  merged-passes ok room = is-passed Merged merged s buffer (merged_plan s ok) ok room
+  merged-passes ok room = is-passed Merged merged s buffer (own_merged s ok) ok room
 
   pub merged-few : Accepted s → MergedRoom s buffer
       → ((merged_answer s buffer).slots ≤ (merged_answer s buffer).colours * depth s)
@@ -44,7 +44,7 @@ module _ (s buffer : Bytes) where
   unfolding merged
   merged-few ok room =
       let made = (merges ok room).0 in
-      (rw made (merged-most s ok), rw made (merged_plan s ok).few, rw made (merged_plan s ok).room)
+      (rw made (merged-most s ok), rw made (own_merged s ok).few, rw made (own_merged s ok).room)
 
 pub merged-made-decided : (s : Bytes) (room : ℕ) → merged_made (take deciding_sheet s) room ≡ merged_made s room
 merged-made-decided s room = plan-made-decided Merged merged s room
