@@ -1,19 +1,16 @@
--- Laws of a word by its bits: one bit fits in a word, and the bits before k are a number below 2 ^ k. By recursion on k.
+-- Laws of a word by its bits: the bits before k are a number below 2 ^ k. By recursion on k.
 use mathlib.Core.Path.{◌≡◌, sym, ap₂, ◌∙◌}
 use mathlib.Core.Bool.{Bool, true, false, cond}
-use Prim.Native.Nat.{ℕ, zero, suc, ◌+◌, ◌*◌, ◌%◌, ◌^◌, ◌<◌}
-use native.Mathlib.Nat.{lt_of_lt_of_le, one-mul, pow-suc}
+use Prim.Native.Nat.{ℕ, zero, suc, ◌+◌, ◌^◌, ◌<◌}
+use native.Mathlib.Nat.{lt_of_lt_of_le, pow-suc}
 use native.Mathlib.Omega.{arith}
-use lib.Pow.{pow_pos, pow_mono, shl_exact}
+use lib.Pow.{pow_pos, pow_mono}
 use Rattle.meaning.specs.Words.{sum}
 use Rattle.laws.proofs.Turns.{sum_one}
 
 -- the word with the flags before k
 abbrev pub bits : (k : ℕ) → (flag : ℕ → Bool) → ℕ
 bits k flag = sum k (λ k. cond (flag k) (2 ^ k) 0)
-
-pub bit-fits : (k : ℕ) → k < 64 → (1 * 2 ^ k) % 2 ^ 64 ≡ 2 ^ k
-bit-fits k h = shl_exact 1 k 64 (omega arith) (omega arith) ∙ one-mul (2 ^ k)
 
 bits_below : (k : ℕ) (flag : ℕ → Bool) → bits k flag < 2 ^ k
 unfolding sum
