@@ -31,6 +31,6 @@ returns c =
     let h = c.loop-x in
     filled h.t h.x 65 _ h.invariant.1 h.invariant.2 c.loop-x-test.false h.invariant.0
     ∙ conflict-rows c.args.p c.args.parents (interfere c.args.records.now c.args.q) _
-    c.pair_table-pairs.ensures
+    c.pair_table.ensures
     (λ v _. let byte : Fits w8 (get_or c.args.parents v 0) = search rules in byte.fits)
-    _ _ c.probes-probes.ensures c.heard_table-heard.ensures
+    _ _ c.probes-probes.ensures c.heard_table.ensures
