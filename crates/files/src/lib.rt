@@ -212,14 +212,22 @@ fn settle(rt: &HostRuntime) -> io::Result<()> {
     }
 }
 
+// Whether an error says that nobody can have such a file on the device.
+fn is_never_synced(error: &Error) -> bool {
+    matches!(
+        error.kind(),
+        ErrorKind::InvalidInput | ErrorKind::Unsupported
+    )
+}
+
 // Has a file on the device; one that may not be opened again, or that nobody can have there, is left to the system.
 fn synced(file: io::Result<File>) -> io::Result<()> {
-    match file {
-        Ok(file) => match file.sync_all() {
-            Err(error) if error.kind() != ErrorKind::InvalidInput => Err(error),
-            _ => Ok(()),
-        },
-        Err(_) => Ok(()),
+    let Ok(file) = file else {
+        return Ok(());
+    };
+    match file.sync_all() {
+        Err(error) if !is_never_synced(&error) => Err(error),
+        _ => Ok(()),
     }
 }
 

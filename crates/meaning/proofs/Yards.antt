@@ -31,7 +31,7 @@ use Rattle.meaning.proofs.RowBytes.{digit, pairs, hex, many, same}
 
 -- what a row says of the sheet that it begins with. `tested` gives number and place. `conflicts` gives for each probe those that it conflicts
 -- with, `level_conflicts` the same of levels. A planner's row gives the length of the buffer lent, whose bytes are all `ee`; then number, place, colours, slots and bytes written; then
--- the whole buffer afterwards. A judge's row gives the plan; then number, place and slots; `named` gives both names too; `slot_tested` gives the senders of
+-- the whole buffer afterwards. A judge's row gives the plan; then number, place and slots; `named` gives both names too; `tested_slot` gives the senders of
 -- slot 7, sent first; then number, place and both names; `holding` gives a plan, and what the nodes from 0 on hold after its slots. A row of branches gives the
 -- heaviest, the longest and the slowest; then come the fewest slots of any plan and the largest degree; the telephone's number and place, then the slots at least, in our plan, and at
 -- most, and how many times anybody's ours is; the last also of colours, our slots and the fewest. A plan's slots, a count's bytes, and a number's and a slot's text stand by themselves

@@ -73,6 +73,7 @@ pub struct Reader<'a> {
 
 // A reader at the first slot of a plan, which begins behind their number.
 fn open<'a>(plan: &'a [u8]) -> Reader<'a>
+    ensures same_reference { result.plan ≡ plan.entry }
     ensures same_plan { result.plan.now ≡ plan.now }
     ensures place { result.at ≡ 2 }
 {
@@ -88,6 +89,7 @@ fn senders<'a>(r: Reader<'a>) -> &'a [u8]
 
 // The reader behind that slot.
 fn behind<'a>(r: Reader<'a>) -> Reader<'a>
+    ensures same_reference { result.plan ≡ r.entry.plan }
     ensures same_plan { result.plan.now ≡ r.entry.plan.now }
     ensures place { result.at ≡ (slot_at r.entry.plan.now r.entry.at).next }
 {
