@@ -9,11 +9,11 @@ use borrow.Author.Tests.{lt-ltb, le-ltb, eq-eqb, ne_eqb}
 use lib.Dec.{ltb}
 use lib.ListN.{length, get_or}
 use Rattle.meaning.specs.declared.Mode.TheVariants.{Packets}
-use Rattle.meaning.specs.declared.Booked.{Booked}
-use Rattle.meaning.specs.declared.Judgement.{Judgement}
+use Rattle.meaning.specs.Returned.{Booked}
+use Rattle.meaning.specs.Returned.{Judgement}
 use Rattle.meaning.specs.declared.Names.{Names}
 use Rattle.meaning.specs.declared.Outcome.{Outcome}
-use Rattle.meaning.specs.declared.Verdict.{Verdict}
+use Rattle.meaning.specs.Returned.{Verdict}
 use Rattle.meaning.specs.Words.{places, tab, by_node}
 use Rattle.meaning.specs.Yard.{is_probe}
 use Rattle.meaning.specs.Sheet.{two_at, probe_count, parent_of, packets_of}
@@ -29,7 +29,7 @@ use Rattle.laws.proofs.Grounds.{few-probes, parent-node}
 use Rattle.laws.proofs.Exact.{good-passed}
 use Rattle.sheet.specs.declared.Tree.{Tree}
 use Rattle.sheet.specs.Tree.{tree_of}
-use Rattle.sheet.proofs.Standing.{Standing, standing, parents-read, each-packets}
+use Rattle.sheet.proofs.Standing.{Standing, standing, parents-read, of_tree}
 use Rattle.reader.specs.Noted.{noted_slots}
 use Rattle.book.specs.Layout.{sends_at, sends_of, hears_of, begun, all_begun, refused_book}
 use Rattle.book.proofs.BookFilled.{book-bytes, book-filled}
@@ -88,8 +88,7 @@ module _ (s plan : List ℕ) (judged : Judgement) (is : judged ≡ judgement s p
       let refused = ne_eqb judged.verdict.outcome.number 0 some in
       refuses r book judged.verdict.outcome (then-stays judged.verdict.outcome _ refused) refused answer
 
-  module _ (exact : is_accepted judged.verdict.outcome ≡ true → Good s plan) (none : judged.verdict.outcome.number ≡ 0) (tree : Tree)
-      (read : tree ≡ tree_of s) where
+  module _ (exact : is_accepted judged.verdict.outcome ≡ true → Good s plan) (none : judged.verdict.outcome.number ≡ 0) where
     passes : is_accepted judged.verdict.outcome ≡ true
     passes = eq-eqb judged.verdict.outcome.number 0 none
 
@@ -107,93 +106,87 @@ module _ (s plan : List ℕ) (judged : Judgement) (is : judged ≡ judgement s p
     unfolding judge_in
     slots = ap (λ (v : Verdict). v.slots) verdict ∙ ap (λ (b : Bool). cond b (two_at plan 0) 0) passed
 
-    ok : is_accepted (sheet_test s) ≡ true
+    pub ok : is_accepted (sheet_test s) ≡ true
     ok = (exact passes).sheet
 
-    its : Standing s tree
-    its = standing s ok tree read
+    module _ (tree : Tree) (read : tree ≡ tree_of s) where
+      its : Standing s tree
+      its = standing s ok tree read
 
-    pub few : tree.probes ≤ 63
-    few = omega (arith, its.probes, few-probes s ok)
+      pub few : tree.probes ≤ 63
+      few = omega (arith, its.probes, few-probes s ok)
 
-    -- whatever is told of probes, parents and packets
-    told : {A : Type 0} (f : ℕ → (ℕ → ℕ) → (ℕ → ℕ) → A)
-        → f tree.probes (by_node tree.parents) (by_node tree.packets) ≡ f (probe_count s) (parent_of s) (packets_of s)
-    told f =
-        ap₂ (λ (p : ℕ) (up : ℕ → ℕ). f p up (by_node tree.packets)) its.probes (parents-read s ok tree its)
-        ∙ ap (λ (packets : ℕ → ℕ). f (probe_count s) (parent_of s) packets) (each-packets s ok tree its)
+      module _ (bytes : ℕ) (laid : bytes ≡ sends_at tree.probes (by_node tree.parents) (by_node tree.packets) tree.probes) where
+        from-sheet : bytes ≡ sends_at (probe_count s) (parent_of s) (packets_of s) (probe_count s)
+        from-sheet = laid ∙ of_tree s ok tree its (λ p parent packets. sends_at p parent packets p)
 
-    module _ (bytes : ℕ) (laid : bytes ≡ sends_at tree.probes (by_node tree.parents) (by_node tree.packets) tree.probes) where
-      from-sheet : bytes ≡ sends_at (probe_count s) (parent_of s) (packets_of s) (probe_count s)
-      from-sheet = laid ∙ told (λ p parent packets. sends_at p parent packets p)
+        all-bytes : bytes ≡ length (wake_book s plan)
+        all-bytes = from-sheet ∙ sym (book-bytes s plan passed)
 
-      all-bytes : bytes ≡ length (wake_book s plan)
-      all-bytes = from-sheet ∙ sym (book-bytes s plan passed)
+        -- 22
+        pub no_room : (r : Booked) (book : List ℕ) → length book < bytes → r ≡ refused_book (record { number = 22; place = 0 }) judged.names
+            → Answered s plan r book book
+        no_room r book short =
+            refuses r book (record { number = 22; place = 0 })
+            (then-goes judged.verdict.outcome _ passes
+            ∙ ap (λ (b : Bool). given 22 0 b) (lt-ltb (length book) (length (wake_book s plan)) (omega (arith, all-bytes))))
+            refl
 
-      -- 22
-      pub no_room : (r : Booked) (book : List ℕ) → length book < bytes → r ≡ refused_book (record { number = 22; place = 0 }) judged.names
-          → Answered s plan r book book
-      no_room r book short =
-          refuses r book (record { number = 22; place = 0 })
-          (then-goes judged.verdict.outcome _ passes
-          ∙ ap (λ (b : Bool). given 22 0 b) (lt-ltb (length book) (length (wake_book s plan)) (omega (arith, all-bytes))))
-          refl
+        module _ (book : List ℕ) (room : bytes ≤ length book) where
+          abbrev sends_in : ℕ → ℕ
+          sends_in = sends_of (probe_count s) (parent_of s) (packets_of s) (length book)
 
-      module _ (book : List ℕ) (room : bytes ≤ length book) where
-        abbrev sends_in : ℕ → ℕ
-        sends_in = sends_of (probe_count s) (parent_of s) (packets_of s) (length book)
+          abbrev hears_in : ℕ → ℕ
+          hears_in = hears_of (probe_count s) (parent_of s) (packets_of s) (length book)
 
-        abbrev hears_in : ℕ → ℕ
-        hears_in = hears_of (probe_count s) (parent_of s) (packets_of s) (length book)
+          -- the whole book
+          written : (after : List ℕ) → after ≡ front book (wake_book s plan)
+              → Answered s plan (record { outcome = judged.verdict.outcome; names = judged.names; bytes = bytes }) book after
+          written after e =
+              let fits : behind (length book) ≡ accepted =
+              then-goes judged.verdict.outcome _ passes
+              ∙ ap (λ (b : Bool). given 22 0 b) (le-ltb (length book) (length (wake_book s plan)) (omega (arith, all-bytes))) in
+              let whole = ap (λ (o : Outcome). made_of o judged.names (wake_book s plan)) (sym fits) ∙ made (length book) in (
+                ap₂ (λ (o : Outcome) (n : ℕ). record { outcome = o; names = judged.names; bytes = n }) clean all-bytes ∙ ap (λ (m : BookMade). m.answer) whole,
+                e ∙ ap (λ (m : BookMade). front book m.written) whole,
+              )
 
-        -- the whole book
-        written : (after : List ℕ) → after ≡ front book (wake_book s plan)
-            → Answered s plan (record { outcome = judged.verdict.outcome; names = judged.names; bytes = bytes }) book after
-        written after e =
-            let fits : behind (length book) ≡ accepted =
-            then-goes judged.verdict.outcome _ passes
-            ∙ ap (λ (b : Bool). given 22 0 b) (le-ltb (length book) (length (wake_book s plan)) (omega (arith, all-bytes))) in
-            let whole = ap (λ (o : Outcome). made_of o judged.names (wake_book s plan)) (sym fits) ∙ made (length book) in (
-              ap₂ (λ (o : Outcome) (n : ℕ). record { outcome = o; names = judged.names; bytes = n }) clean all-bytes ∙ ap (λ (m : BookMade). m.answer) whole,
-              e ∙ ap (λ (m : BookMade). front book m.written) whole,
-            )
+          module _ (sends hears at between after : List ℕ)
+              (sends-laid : sends ≡ tab places (sends_of tree.probes (by_node tree.parents) (by_node tree.packets) (length book)))
+              (hears-laid : hears ≡ tab places (hears_of tree.probes (by_node tree.parents) (by_node tree.packets) (length book)))
+              (begins : between ≡ all_begun tree.probes (by_node sends) (by_node hears) book)
+              (own : (v : ℕ) → v < 65 → get_or at (2 * v) 0 ≡ get_or sends v 0)
+              (up : (v : ℕ) → v < 65 → get_or at (2 * v + 1) 0 ≡ get_or hears (get_or tree.parents v 0) 0)
+              (noted : after ≡ noted_slots at 1 (slots_from plan 2 judged.verdict.slots) between) where
+            -- a place by node is the sheet's
+            sends-at : (v : ℕ) → v < places → get_or sends v 0 ≡ sends_in v
+            sends-at v h =
+                ap (λ (l : List ℕ). get_or l v 0) (sends-laid ∙ of_tree s ok tree its (λ p parent packets. tab places (sends_of p parent packets (length book))))
+                ∙ get_or-tab places sends_in v 0 h
 
-        module _ (sends hears at between after : List ℕ)
-            (sends-laid : sends ≡ tab places (sends_of tree.probes (by_node tree.parents) (by_node tree.packets) (length book)))
-            (hears-laid : hears ≡ tab places (hears_of tree.probes (by_node tree.parents) (by_node tree.packets) (length book)))
-            (begins : between ≡ all_begun tree.probes (by_node sends) (by_node hears) book)
-            (own : (v : ℕ) → v < 65 → get_or at (2 * v) 0 ≡ get_or sends v 0)
-            (up : (v : ℕ) → v < 65 → get_or at (2 * v + 1) 0 ≡ get_or hears (get_or tree.parents v 0) 0)
-            (noted : after ≡ noted_slots at 1 (slots_from plan 2 judged.verdict.slots) between) where
-          -- a place by node is the sheet's
-          sends-at : (v : ℕ) → v < places → get_or sends v 0 ≡ sends_in v
-          sends-at v h =
-              ap (λ (l : List ℕ). get_or l v 0) (sends-laid ∙ told (λ p parent packets. tab places (sends_of p parent packets (length book))))
-              ∙ get_or-tab places sends_in v 0 h
+            hears-at : (v : ℕ) → v < places → get_or hears v 0 ≡ hears_in v
+            hears-at v h =
+                ap (λ (l : List ℕ). get_or l v 0) (hears-laid ∙ of_tree s ok tree its (λ p parent packets. tab places (hears_of p parent packets (length book))))
+                ∙ get_or-tab places hears_in v 0 h
 
-          hears-at : (v : ℕ) → v < places → get_or hears v 0 ≡ hears_in v
-          hears-at v h =
-              ap (λ (l : List ℕ). get_or l v 0) (hears-laid ∙ told (λ p parent packets. tab places (hears_of p parent packets (length book))))
-              ∙ get_or-tab places hears_in v 0 h
+            node : (v : ℕ) → is_probe (probe_count s) v ≡ true → v < places
+            node v h = omega (arith, probe-most (probe_count s) v h, few-probes s ok)
 
-          node : (v : ℕ) → is_probe (probe_count s) v ≡ true → v < places
-          node v h = omega (arith, probe-most (probe_count s) v h, few-probes s ok)
+            parent-at : (v : ℕ) → get_or tree.parents v 0 ≡ parent_of s v
+            parent-at v = ap (λ (f : ℕ → ℕ). f v) (parents-read s ok tree its)
 
-          parent-at : (v : ℕ) → get_or tree.parents v 0 ≡ parent_of s v
-          parent-at v = ap (λ (f : ℕ → ℕ). f v) (parents-read s ok tree its)
+            filled : after ≡ front book (wake_book s plan)
+            filled =
+                noted
+                ∙ ap₂ (λ (n : ℕ) (l : List ℕ). noted_slots at 1 (slots_from plan 2 n) l) slots
+                (begins ∙ ap (λ (p : ℕ). all_begun p (by_node sends) (by_node hears) book) its.probes
+                ∙ begun-same (probe_count s) (by_node sends) sends_in (by_node hears) hears_in book (λ k h. sends-at (k + 2) (omega (arith, few-probes s ok)))
+                (λ k h. hears-at (k + 2) (omega (arith, few-probes s ok))))
+                ∙ book-filled s plan passed book at (λ v h. own v (node v h) ∙ sends-at v (node v h))
+                (λ v h.
+                up v (node v h) ∙ ap (λ (u : ℕ). get_or hears u 0) (parent-at v)
+                ∙ hears-at (parent_of s v) (parent-node s ok v h))
+                (omega (arith, from-sheet))
 
-          filled : after ≡ front book (wake_book s plan)
-          filled =
-              noted
-              ∙ ap₂ (λ (n : ℕ) (l : List ℕ). noted_slots at 1 (slots_from plan 2 n) l) slots
-              (begins ∙ ap (λ (p : ℕ). all_begun p (by_node sends) (by_node hears) book) its.probes
-              ∙ begun-same (probe_count s) (by_node sends) sends_in (by_node hears) hears_in book (λ k h. sends-at (k + 2) (omega (arith, few-probes s ok)))
-              (λ k h. hears-at (k + 2) (omega (arith, few-probes s ok))))
-              ∙ book-filled s plan passed book at (λ v h. own v (node v h) ∙ sends-at v (node v h))
-              (λ v h.
-              up v (node v h) ∙ ap (λ (u : ℕ). get_or hears u 0) (parent-at v)
-              ∙ hears-at (parent_of s v) (parent-node s ok v h))
-              (omega (arith, from-sheet))
-
-          pub book-written : Answered s plan (record { outcome = judged.verdict.outcome; names = judged.names; bytes = bytes }) book after
-          book-written = written after filled
+            pub book-written : Answered s plan (record { outcome = judged.verdict.outcome; names = judged.names; bytes = bytes }) book after
+            book-written = written after filled

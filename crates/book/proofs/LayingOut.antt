@@ -1,21 +1,22 @@
 -- Laws of laying out a book: a list by node is filled probe by probe, and the places by sender two at a time.
 use mathlib.Core.Path.{◌≡◌, refl, sym, ap, ap₂, ◌∙◌, subst}
-use mathlib.Core.Bool.{Bool, true, false, cond}
+use mathlib.Core.Bool.{Bool, false, cond}
 use mathlib.Core.List.{List}
 use mathlib.Core.Logic.{⊎_elim}
 use Prim.Native.Nat.{ℕ, ◌+◌, ◌-◌, ◌*◌, ◌≤◌, ◌<◌}
 use native.Mathlib.Decide.{dec_lt}
 use native.Mathlib.Omega.{arith}
-use lib.Dec.{leb}
-use lib.ListN.{length, get_or, set, replicate, length-set, get_or-replicate, get_or-eq_default}
+use lib.ListN.{length, get_or, set, replicate, length-set, get_or-map, get_or-replicate, get_or-eq_default}
 use lib.Seq.{get_or-set_same, get_or-set_other, ext_get_or}
+use Rattle.std.proofs.lemmas.List.{map-set}
 use borrow.Author.Tests.{le-leb, lt-leb}
 use Rattle.meaning.specs.Words.{Node, places, tab, sum}
 use Rattle.meaning.specs.Yard.{is_probe, branch_packets}
 use Rattle.laws.proofs.Turns.{below-or-last, for_each-one, sum_one, length-tab, get_or-tab, set-tab}
 use Rattle.laws.proofs.Walk.{probe-yes, probe-below, probe-past}
 use Rattle.reader.specs.Noted.{two_set}
-use Rattle.book.specs.Layout.{sendings, hearings, sends_at, hears_at, sends_of, hears_of, begun, all_begun}
+use Rattle.book.specs.declared.Lists.{Lists}
+use Rattle.book.specs.Layout.{all_sends, all_hears, sendings, hearings, sends_at, hears_at, sends_of, hears_of, begun, all_begun}
 
 -- by node, what the first k probes have; what is no probe, or comes later, has `end`
 abbrev pub so_far : (k : ℕ) → (f : ℕ → ℕ) → (end : ℕ) → Node → ℕ
@@ -75,9 +76,9 @@ laid-start p parent packets end =
       heard = so-far-start (hears_at p parent packets) end;
     }
 
-pub laid_next : (p : ℕ) (parent packets : Node → ℕ) (end k : ℕ) (sends hears : List ℕ) (at s h : ℕ) → Laid p parent packets end k sends hears at
+laid_next : (p : ℕ) (parent packets : Node → ℕ) (end k : ℕ) (sends hears : List ℕ) (at s h : ℕ) → Laid p parent packets end k sends hears at
     → k < p → p ≤ 63 → s < 65536 → s ≡ branch_packets p parent packets (k + 2) → h ≡ s - packets (k + 2)
-    → Laid p parent packets end (k + 1) (set sends (k + 2) at) (set hears (k + 2) (at + 2 + 2 * s)) (at + 4 + 2 * s + 2 * h)
+    → Laid p parent packets end (k + 1) (set sends (k + 2) at) (set hears (k + 2) (at + 2 + 2 * s)) (at + (4 + 2 * s + 2 * h))
 laid_next p parent packets end k sends hears at s h b low few fits es eh =
     let entry : 4 + 2 * sendings p parent packets (k + 2) + 2 * hearings p parent packets (k + 2) ≡ 4 + 2 * s + 2 * h =
     ap₂ (λ (a c : ℕ). 4 + 2 * a + 2 * c) (sym es) (sym (eh ∙ ap (λ (a : ℕ). a - packets (k + 2)) es)) in
@@ -91,8 +92,23 @@ laid_next p parent packets end k sends hears at s h b low few fits es eh =
           (ap₂ (λ (a c : ℕ). a + 2 + 2 * c) b.next es) b.heard;
     }
   where
-    together : (a e s h : ℕ) {t : ℕ} → a ≡ t → e ≡ 4 + 2 * s + 2 * h → a + 4 + 2 * s + 2 * h ≡ t + e
+    together : (a e s h : ℕ) {t : ℕ} → a ≡ t → e ≡ 4 + 2 * s + 2 * h → a + (4 + 2 * s + 2 * h) ≡ t + e
     together a e s h p q = omega arith
+
+-- the same of lists that stand side by side
+pub laid-more : (p : ℕ) (parent packets : Node → ℕ) (end k : ℕ) (lists : List Lists) (at s h : ℕ)
+    → Laid p parent packets end k (all_sends lists) (all_hears lists) at → k < p → p ≤ 63 → s < 65536 → s ≡ branch_packets p parent packets (k + 2)
+    → h ≡ s - packets (k + 2)
+    → Laid p parent packets end (k + 1) (all_sends (set lists (k + 2) (record { sends = at; hears = at + 2 + 2 * s })))
+    (all_hears (set lists (k + 2) (record { sends = at; hears = at + 2 + 2 * s }))) (at + (4 + 2 * s + 2 * h))
+laid-more p parent packets end k lists at s h b low few fits es eh =
+    let put : Lists = record { sends = at; hears = at + 2 + 2 * s } in
+    let next : ℕ = at + (4 + 2 * s + 2 * h) in
+    subst (λ (l : List ℕ). Laid p parent packets end (k + 1) l (all_hears (set lists (k + 2) put)) next)
+    (sym (map-set (λ (l : Lists). l.sends) lists (k + 2) put))
+    (subst (λ (l : List ℕ). Laid p parent packets end (k + 1) (set (all_sends lists) (k + 2) at) l next)
+    (sym (map-set (λ (l : Lists). l.hears) lists (k + 2) put))
+    (laid_next p parent packets end k (all_sends lists) (all_hears lists) at s h b low few fits es eh))
 
 pub laid-all : (p : ℕ) (parent packets : Node → ℕ) (end k : ℕ) (sends hears : List ℕ) (at : ℕ) → Laid p parent packets end k sends hears at → p ≤ k
     → Laid p parent packets end p sends hears at
@@ -110,7 +126,7 @@ pub laid-hears : (p : ℕ) (parent packets : Node → ℕ) (end : ℕ) (sends he
 unfolding hears_of
 laid-hears p parent packets end sends hears at b = b.heard
 
--- a list begins only where it has room, and leaves a buffer as long as it was
+-- a list begins only where it has room
 pub no-begin : (place : ℕ) (book : List ℕ) → length book < place + 2 → begun place book ≡ book
 unfolding begun
 no-begin place book h = rw (lt-leb (place + 2) (length book) h)
@@ -119,13 +135,12 @@ pub begin-there : (place : ℕ) (book : List ℕ) → place + 2 ≤ length book 
 unfolding begun
 begin-there place book h = rw (le-leb (place + 2) (length book) h)
 
-pub begun-long : (place : ℕ) (book : List ℕ) → length (begun place book) ≡ length book
-unfolding begun
-begun-long place book = go (leb (place + 2) (length book))
-  where
-    go : (b : Bool) → length (cond b (two_set place 0 book) book) ≡ length book
-    go true = simp length-set
-    go false = refl
+-- where the lists of a node stand
+pub sends-of : (lists : List Lists) (v : ℕ) → get_or (all_sends lists) v 0 ≡ (get_or lists v (record { sends = 0; hears = 0 })).sends
+sends-of lists v = get_or-map (λ (l : Lists). l.sends) lists v (record { sends = 0; hears = 0 })
+
+pub hears-of : (lists : List Lists) (v : ℕ) → get_or (all_hears lists) v 0 ≡ (get_or lists v (record { sends = 0; hears = 0 })).hears
+hears-of lists v = get_or-map (λ (l : Lists). l.hears) lists v (record { sends = 0; hears = 0 })
 
 -- both lists of one probe more
 pub begin-next : (sends hears : Node → ℕ) (k : ℕ) (start book between after : List ℕ) → book ≡ all_begun k sends hears start

@@ -1,11 +1,19 @@
 -- Where the lists of a wake book stand, known from the sheet alone: each probe sends as often as its branch has packets, and hears all of these but its own.
-use Rattle.std.specs.Prelude.{cond, ℕ, ◌+◌, ◌-◌, ◌*◌, leb, length}
-use Rattle.meaning.specs.declared.Booked.{Booked}
+use Rattle.std.specs.Prelude.{cond, List, map, ℕ, ◌+◌, ◌-◌, ◌*◌, leb, length}
+use Rattle.book.specs.declared.Lists.{Lists}
+use Rattle.meaning.specs.Returned.{Booked}
 use Rattle.meaning.specs.declared.Names.{Names}
 use Rattle.meaning.specs.declared.Outcome.{Outcome}
 use Rattle.meaning.specs.Words.{Bytes, Node, for_each, sum}
 use Rattle.meaning.specs.Yard.{is_probe, branch_packets}
 use Rattle.reader.specs.Noted.{two_set}
+
+-- where the nodes' lists of sendings stand, and those of hearings
+abbrev pub all_sends : List Lists → List ℕ
+all_sends lists = map (λ (l : Lists). l.sends) lists
+
+abbrev pub all_hears : List Lists → List ℕ
+all_hears lists = map (λ (l : Lists). l.hears) lists
 
 -- over any parents and packets of p probes
 module _ (p : ℕ) (parent : Node → Node) (packets : Node → ℕ) where

@@ -3,29 +3,21 @@
 
 ghost use Rattle.std.specs.Prelude.{◌≡◌};
 ghost use Rattle.meaning.specs.Judge.{choose_by, choice, handed_back};
+ghost use Rattle.meaning.specs.Results.{judge_answer};
 ghost use Rattle.chooser.specs.Handed.{Handed};
 
-use meaning::{Choice, Verdict};
+use meaning::{Blame, Choice};
 
 // The passed one with fewer slots, the first when equal.
-fn choose_by(first: Verdict, second: Verdict) -> Choice
-    ensures { result ≡ choose_by first second }
+fn choose_by(first: Result<u16, Blame>, second: Result<u16, Blame>) -> Choice
+    ensures { result ≡ choose_by (judge_answer first).verdict (judge_answer second).verdict }
 {
-    let a = first.outcome;
-    let b = second.outcome;
-    if a.number != 0 {
-        if b.number != 0 {
-            return Choice::Neither;
-        }
-        return Choice::Second;
+    match (first, second) {
+        (Ok(ours), Ok(theirs)) if theirs < ours => Choice::Second,
+        (Ok(_), _) => Choice::First,
+        (Err(_), Ok(_)) => Choice::Second,
+        (Err(_), Err(_)) => Choice::Neither,
     }
-    if b.number != 0 {
-        return Choice::First;
-    }
-    if first.slots <= second.slots {
-        return Choice::First;
-    }
-    Choice::Second
 }
 
 // Which of two plans is the passed one with fewer slots; whom the judgements name is dropped, since a choice blames nobody.
@@ -34,7 +26,7 @@ pub fn choice(sheet: &[u8], first: &[u8], second: &[u8]) -> Choice
 {
     let on_first = judge::judgement(sheet, first);
     let on_second = judge::judgement(sheet, second);
-    choose_by(on_first.verdict, on_second.verdict)
+    choose_by(on_first, on_second)
 }
 
 // That plan itself; the empty part at the start of the first where none passes.

@@ -1,4 +1,5 @@
 -- Laws that belong to no one function.
+pub mod Chains
 pub mod Taking
 pub mod Free
 pub mod Owners

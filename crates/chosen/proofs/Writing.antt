@@ -6,8 +6,8 @@ use Prim.Native.Nat.{ℕ, zero, suc, ◌+◌, ◌≤◌, ◌<◌}
 use native.Mathlib.Numerals.{add-one}
 use native.Mathlib.Omega.{arith}
 use borrow.Author.Tests.{lt-ltb, le-ltb}
-use lib.ListN.{length, get_or, take, drop, set, length-append, length-take, length-set}
-use lib.Seq.{drop-cons, set_at, drop-set-lt, take-suc, take_all}
+use lib.ListN.{length, get_or, drop, set, length-append, length-set}
+use lib.Seq.{drop-cons, set_at, drop-set-lt}
 use Rattle.meaning.specs.Words.{probes_that}
 use Rattle.meaning.specs.Plan.{front}
 use Rattle.laws.proofs.Lists.{length_front}
@@ -110,34 +110,3 @@ module _ (test : ℕ → Bool) where
             ap₂ (λ (l : List ℕ) (j : ℕ). set l 0 j) now.wrote now.counted
             ∙ front-over d 0 (length (probes_that p test)) (probes_that p test);
       }
-
--- as far as byte i: so many are copied to the start
-pub record Copying (bytes d rest : List ℕ) (i : ℕ) : Type 0 where
-  pub within : i ≤ length bytes
-  pub room : length bytes ≤ length d
-  pub wrote : rest ≡ front d (take i bytes)
-
-module _ (bytes d rest : List ℕ) (i : ℕ) (now : Copying bytes d rest i) where
-  so-many : length (take i bytes) ≡ i
-  so-many = rw (length-take i bytes) (omega (arith, now.within))
-
-  pub copying-long : length rest ≡ length d
-  copying-long = ap length now.wrote ∙ length_front d (take i bytes) (omega (arith, so-many, now.within, now.room))
-
-  pub copying-next : i < length bytes → Copying bytes d (set rest i (get_or bytes i 0)) (i + 1)
-  copying-next h =
-      let longer : take (i + 1) bytes ≡ take i bytes ++ (get_or bytes i 0 ∷ []) = rw (add-one i) (take-suc bytes i 0 h) in
-      record {
-        within = omega arith;
-        room = now.room;
-        wrote =
-            ap₂ (λ (l : List ℕ) (j : ℕ). set l j (get_or bytes i 0)) now.wrote (sym so-many)
-            ∙ set_front d (take i bytes) (get_or bytes i 0) (omega (arith, so-many, now.room))
-            ∙ ap (front d) (sym longer);
-      }
-
-  -- all are: the rest has them as a whole
-  pub copied : length bytes ≤ i → (i ≡ length (whole d bytes)) × (rest ≡ front d (whole d bytes))
-  copied h =
-      let all : whole d bytes ≡ bytes = whole-fits d bytes now.room in
-      (omega (arith, now.within, ap length all), now.wrote ∙ ap (front d) (take_all i bytes h ∙ sym all))

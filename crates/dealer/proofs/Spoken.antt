@@ -7,8 +7,8 @@ use native.Mathlib.Omega.{arith}
 use borrow.Author.Tests.{eq-eqb, ne_eqb, lt-ltb, le-ltb}
 use lib.Dec.{eqb, ltb}
 use lib.ListN.{length}
-use Rattle.meaning.specs.declared.Told.{Told}
-use Rattle.meaning.specs.declared.MergedTold.{MergedTold}
+use Rattle.meaning.specs.Returned.{Told}
+use Rattle.meaning.specs.Returned.{MergedTold}
 use Rattle.meaning.specs.Lister.{text, decimal}
 use Rattle.lines.proofs.PartsLong.{Within, counted, both, numbered, digits_long}
 use Rattle.dealer.specs.SlotLength.{down, up, seconds_of}

@@ -1,8 +1,8 @@
 -- RULES, "The answers in words": what is said on the telephone, four sentences, of merged readings three, with minutes and seconds where a slot's length is known.
 use Rattle.std.specs.Prelude.{cond, [], ◌++◌, ℕ, ◌/◌, ◌%◌, eqb, ltb}
 use Rattle.meaning.specs.declared.Outcome.{Outcome}
-use Rattle.meaning.specs.declared.Told.{Told}
-use Rattle.meaning.specs.declared.MergedTold.{MergedTold}
+use Rattle.meaning.specs.Returned.{Told}
+use Rattle.meaning.specs.Returned.{MergedTold}
 use Rattle.meaning.specs.Words.{Bytes}
 use Rattle.meaning.specs.Answer.{is_accepted}
 use Rattle.meaning.specs.Lister.{text, decimal, said}
@@ -27,6 +27,10 @@ least_said slots ms = at_least (text "One reading") slots ms
 unfoldable pub merged_said : (slots ms : ℕ) → Bytes
 merged_said slots ms = at_least (text "One merged reading") slots ms
 
+-- how many slots something takes, behind such words: the time is rounded up
+abbrev pub takes : (words : Bytes) → (slots ms : ℕ) → Bytes
+takes words slots ms = words ++ decimal 5 slots ++ timed slots ms up ++ text "."
+
 -- our plan by probe: the time is rounded up
 unfoldable pub ours_said : (slots ms : ℕ) → Bytes
 ours_said slots ms = said " Our plan takes" slots ++ timed slots ms up ++ text "."
@@ -34,6 +38,10 @@ ours_said slots ms = said " Our plan takes" slots ++ timed slots ms up ++ text "
 -- our plan never takes more: the time is rounded up
 unfoldable pub most_said : (slots ms : ℕ) → Bytes
 most_said slots ms = said " It never takes more than" slots ++ timed slots ms up ++ text "."
+
+-- the three sentences about the plans for such a reading
+abbrev pub plans_said : (reading : Bytes) → (least ours most ms : ℕ) → Bytes
+plans_said reading least ours most ms = at_least reading least ms ++ ours_said ours ms ++ most_said most ms
 
 -- how much shorter anybody's plan can be than ours: not at all where ours has the least slots, and else never less than its part
 unfoldable pub nobody_said : (least ours times : ℕ) → Bytes

@@ -1,19 +1,21 @@
 // The telephone in the dealer's words: how long a slot is, the sentences about a sheet and its merged readings, and the line about other arrangements of its probes.
 #![tactic(auto)]
 
-ghost use Rattle.std.specs.Prelude.{◌≡◌, ◌≤◌, min, length, take};
+ghost use Rattle.std.specs.Prelude.{◌≡◌, Ok, ◌≤◌, length, take};
+ghost use Rattle.meaning.specs.Results.{told_answer, merged_told_answer};
 ghost use Rattle.lines.specs.Line.{line_length, line_in};
-ghost use Rattle.lines.specs.Fits.{Fits};
-ghost use Rattle.dealer.specs.SlotLength.{longest_slot, milliseconds_said, seconds_of};
-ghost use Rattle.dealer.specs.Sentences.{timed, at_least, ours_said, most_said, nobody_said, sentences, merged_sentences};
-ghost use Rattle.dealer.specs.Sentences.{or_refused, asked_text, merged_text, spread_text};
+ghost use Rattle.lines.specs.Text.{Says};
+ghost use Rattle.dealer.specs.SlotLength.{milliseconds_said, seconds_of};
+ghost use Rattle.dealer.specs.Sentences.{timed, at_least, takes, plans_said, nobody_said, sentences, merged_sentences};
+ghost use Rattle.dealer.specs.Sentences.{asked_text, merged_text, spread_text};
 
-use meaning::{MergedTold, Outcome, Told};
+use lines::{Answer, said};
+use meaning::{Limits, MergedLimits, Outcome, Refusal};
 
 // A slot is at most a minute long, in milliseconds.
 const LONGEST_SLOT: u16 = 60000;
 
-// The milliseconds that a word says, 1 to 60,000; 0 where it says anything else.
+// The milliseconds that a word says, 1 to 60,000; 0 where it says anything else, not None: what a public function answers may not change.
 pub fn milliseconds(word: &[u8]) -> u16
     ensures { result ≡ milliseconds_said word.now }
 {
@@ -24,144 +26,129 @@ pub fn milliseconds(word: &[u8]) -> u16
     if LONGEST_SLOT < said { 0 } else { said }
 }
 
-fn at_most_a_minute(ms: u16) -> u16
-    ensures { result ≡ min ms longest_slot }
-{
-    if ms < LONGEST_SLOT { ms } else { LONGEST_SLOT }
-}
-
 // The seconds that so many slots take, rounded down by 0 and up by 999.
 fn seconds(slots: u16, ms: u16, rounding: u16) -> u32
     requires { rounding ≤ 999 }
     ensures count { result ≡ seconds_of slots ms rounding }
     ensures few { result ≤ 3932100 }
 {
-    let slot = at_most_a_minute(ms);
+    let slot = ms.min(LONGEST_SLOT);
     (slots as u32 * slot as u32 + rounding as u32) / 1000
 }
 
-// Puts how long so many slots take at a place, and nothing where a slot's length is not known; says where it ends.
-fn put_timed(slots: u16, ms: u16, rounding: u16, out: &mut [u8], at: usize) -> usize
+// Says how long so many slots take, and nothing where a slot's length is not known.
+fn say_timed(answer: &mut Answer, slots: u16, ms: u16, rounding: u16)
     requires { rounding ≤ 999 }
-    ensures { Fits out.old at (timed slots ms rounding) out.new result }
+    ensures { Says 256 answer.old (timed slots ms rounding) answer.new }
 {
     if ms == 0 {
-        return at;
+        return answer.words(b"");
     }
     let all = seconds(slots, ms, rounding);
     let minutes = (all / 60) as u16;
     let rest = (all % 60) as u16;
-    let a = lines::put_counted(b" (", minutes, out, at);
-    let b = lines::put_counted(b" min ", rest, out, a);
-    lines::put_words(b" s)", out, b)
+    answer.counted(b" (", minutes);
+    answer.counted(b" min ", rest);
+    answer.words(b" s)");
 }
 
-// Puts the sentence about any plan for such a reading at a place; says where it ends.
-fn put_at_least(reading: &[u8], slots: u16, ms: u16, out: &mut [u8], at: usize) -> usize
-    ensures { Fits out.old at (at_least reading.now slots ms) out.new result }
+// Says the sentence about any plan for such a reading.
+fn say_at_least(answer: &mut Answer, reading: &[u8], slots: u16, ms: u16)
+    ensures { Says 256 answer.old (at_least reading.now slots ms) answer.new }
 {
-    let a = lines::put_words(reading, out, at);
-    let b = lines::put_counted(b" takes at least ", slots, out, a);
-    let d = lines::put_words(b" slots", out, b);
-    let e = put_timed(slots, ms, 0, out, d);
-    lines::put_words(b", whoever plans it.", out, e)
+    answer.words(reading);
+    answer.counted(b" takes at least ", slots);
+    answer.words(b" slots");
+    say_timed(answer, slots, ms, 0);
+    answer.words(b", whoever plans it.");
 }
 
-// The same of our plan.
-fn put_ours(slots: u16, ms: u16, out: &mut [u8], at: usize) -> usize
-    ensures { Fits out.old at (ours_said slots ms) out.new result }
+// Says the sentence about our plan, or about its worst case, which begins with such words.
+fn say_ours(answer: &mut Answer, words: &[u8], slots: u16, ms: u16)
+    ensures { Says 256 answer.old (takes words.now slots ms) answer.new }
 {
-    let a = lines::put_counted(b" Our plan takes ", slots, out, at);
-    let b = put_timed(slots, ms, 999, out, a);
-    lines::put_words(b".", out, b)
+    answer.counted(words, slots);
+    say_timed(answer, slots, ms, 999);
+    answer.words(b".");
 }
 
-// The same of its worst case.
-fn put_most(slots: u16, ms: u16, out: &mut [u8], at: usize) -> usize
-    ensures { Fits out.old at (most_said slots ms) out.new result }
+// Says the three sentences about the plans for such a reading: anybody's, ours and its worst case.
+fn say_plans(answer: &mut Answer, reading: &[u8], least: u16, ours: u16, most: u16, ms: u16)
+    ensures { Says 256 answer.old (plans_said reading.now least ours most ms) answer.new }
 {
-    let a = lines::put_counted(b" It never takes more than ", slots, out, at);
-    let end = put_timed(slots, ms, 999, out, a);
-    lines::put_words(b".", out, end)
+    say_at_least(answer, reading, least, ms);
+    say_ours(answer, b" Our plan takes ", ours, ms);
+    say_ours(answer, b" It never takes more than ", most, ms);
 }
 
-// The same of how much shorter than ours anybody's plan can be.
-fn put_nobody(least: u16, ours: u16, times: u8, out: &mut [u8], at: usize) -> usize
-    ensures { Fits out.old at (nobody_said least ours times) out.new result }
+// Says how much shorter than ours anybody's plan can be.
+fn say_nobody(answer: &mut Answer, least: u16, ours: u16, times: u8)
+    ensures { Says 256 answer.old (nobody_said least ours times) answer.new }
 {
     if least < ours {
-        let a = lines::put_counted(b" Nobody's plan can be less than 1/", times as u16, out, at);
-        return lines::put_words(b" of ours.\n", out, a);
+        answer.counted(b" Nobody's plan can be less than 1/", times as u16);
+        return answer.words(b" of ours.\n");
     }
-    lines::put_words(b" Nobody's plan is shorter.\n", out, at)
+    answer.words(b" Nobody's plan is shorter.\n");
 }
 
-// Puts the four sentences at a place; says where they end.
-fn put_sentences(told: Told, ms: u16, out: &mut [u8], at: usize) -> usize
-    ensures { Fits out.old at (sentences told ms) out.new result }
+// Says the four sentences.
+fn say_sentences(answer: &mut Answer, told: Limits, ms: u16)
+    ensures { Says 256 answer.old (sentences (told_answer (Ok told)) ms) answer.new }
 {
-    let a = put_at_least(b"One reading", told.least, ms, out, at);
-    let b = put_ours(told.ours, ms, out, a);
-    let d = put_most(told.most, ms, out, b);
-    put_nobody(told.least, told.ours, told.times, out, d)
+    say_plans(answer, b"One reading", told.least, told.ours, told.most, ms);
+    say_nobody(answer, told.least, told.ours, told.times);
 }
 
-// Puts the three sentences about merged readings at a place; says where they end.
-fn put_merged(told: MergedTold, ms: u16, out: &mut [u8], at: usize) -> usize
-    ensures { Fits out.old at (merged_sentences told ms) out.new result }
+// Says the three sentences about merged readings.
+fn say_merged(answer: &mut Answer, told: MergedLimits, ms: u16)
+    ensures { Says 256 answer.old (merged_sentences (merged_told_answer (Ok told)) ms) answer.new }
 {
-    let first = put_at_least(b"One merged reading", told.least, ms, out, at);
-    let second = put_ours(told.ours, ms, out, first);
-    let third = put_most(told.most, ms, out, second);
-    lines::put_words(b"\n", out, third)
-}
-
-// Sentences, or the line of the refusal, at the start of a lent buffer; says how many bytes they have, 0 and nothing written where they do not fit.
-fn or_refused(out: &mut [u8], outcome: Outcome, sentences: &[u8]) -> usize
-    ensures part { (result ≤ length out.new) × (result ≡ length (take result out.new)) }
-    ensures answer { result ≡ line_length out.old (or_refused outcome sentences.now) }
-    ensures buffer { out.new ≡ line_in out.old (or_refused outcome sentences.now) }
-{
-    if outcome.number != 0 {
-        return wording::refused(out, outcome);
-    }
-    lines::put_words(sentences, out, 0)
+    say_plans(
+        answer,
+        b"One merged reading",
+        told.least,
+        told.ours,
+        told.most,
+        ms,
+    );
+    answer.words(b"\n");
 }
 
 // What is said of a sheet, at the start of a lent buffer, in minutes too where ms is not 0; says how many bytes it has, 0 and nothing written where they do not fit.
-pub fn asked(out: &mut [u8], told: Told, ms: u16) -> usize
+pub fn asked(out: &mut [u8], told: Result<Limits, Refusal>, ms: u16) -> usize
     ensures part { (result ≤ length out.new) × (result ≡ length (take result out.new)) }
-    ensures answer { result ≡ line_length out.old (asked_text told ms) }
-    ensures buffer { out.new ≡ line_in out.old (asked_text told ms) }
+    ensures answer { result ≡ line_length out.old (asked_text (told_answer told) ms) }
+    ensures buffer { out.new ≡ line_in out.old (asked_text (told_answer told) ms) }
 {
-    let mut line = [0u8; wording::ANY_ANSWER];
-    let n = put_sentences(told, ms, &mut line, 0);
-    or_refused(out, told.outcome, &line[..n])
+    match told {
+        Err(refusal) => wording::refused(out, Outcome::from(refusal)),
+        Ok(told) => said(out, |answer| say_sentences(answer, told, ms)),
+    }
 }
 
-// The same of a sheet's merged readings.
-pub fn merged_asked(out: &mut [u8], told: MergedTold, ms: u16) -> usize
+// The same of a sheet's merged readings; two functions, since both are public and what they say is `say_sentences` and `say_merged`.
+pub fn merged_asked(out: &mut [u8], told: Result<MergedLimits, Refusal>, ms: u16) -> usize
     ensures part { (result ≤ length out.new) × (result ≡ length (take result out.new)) }
-    ensures answer { result ≡ line_length out.old (merged_text told ms) }
-    ensures buffer { out.new ≡ line_in out.old (merged_text told ms) }
+    ensures answer { result ≡ line_length out.old (merged_text (merged_told_answer told) ms) }
+    ensures buffer { out.new ≡ line_in out.old (merged_text (merged_told_answer told) ms) }
 {
-    let mut line = [0u8; wording::ANY_ANSWER];
-    let n = put_merged(told, ms, &mut line, 0);
-    or_refused(out, told.outcome, &line[..n])
+    match told {
+        Err(refusal) => wording::refused(out, Outcome::from(refusal)),
+        Ok(told) => said(out, |answer| say_merged(answer, told, ms)),
+    }
 }
 
-// Puts what is said of the other arrangements at a place; says where it ends.
-fn put_spread(best: u16, worst: u16, out: &mut [u8], at: usize) -> usize
-    ensures { Fits out.old at (spread_text best worst) out.new result }
+// Says the line about the other arrangements.
+fn say_spread(answer: &mut Answer, best: u16, worst: u16)
+    ensures { Says 256 answer.old (spread_text best worst) answer.new }
 {
-    let a = lines::put_counted(
+    answer.counted(
         b"The same probes, hung otherwise and disturbing each other otherwise: ",
         best,
-        out,
-        at,
     );
-    let b = lines::put_counted(b" slots at best, ", worst, out, a);
-    lines::put_words(b" at worst.\n", out, b)
+    answer.counted(b" slots at best, ", worst);
+    answer.words(b" at worst.\n");
 }
 
 // What is said of the other arrangements of a sheet's probes, at the start of a lent buffer; says how many bytes it has, 0 and nothing written where they do not fit.
@@ -170,7 +157,5 @@ pub fn spread(out: &mut [u8], best: u16, worst: u16) -> usize
     ensures answer { result ≡ line_length out.old (spread_text best worst) }
     ensures buffer { out.new ≡ line_in out.old (spread_text best worst) }
 {
-    let mut line = [0u8; wording::ANY_ANSWER];
-    let n = put_spread(best, worst, &mut line, 0);
-    lines::put_words(&line[..n], out, 0)
+    said(out, |answer| say_spread(answer, best, worst))
 }

@@ -5,20 +5,17 @@ ghost use Rattle.std.specs.Prelude.{◌≡◌, cond, [], ◌-◌, ◌≤◌, ◌
 ghost use Rattle.meaning.specs.Words.{places};
 ghost use Rattle.meaning.specs.Plan.{front};
 ghost use Rattle.lines.specs.Fits.{Fits};
-ghost use Rattle.graph.specs.Drawing.{texts, problem_line, edge_line, row_text, table_text, graph_made};
+ghost use Rattle.draw.specs.Copied.{Copied};
+ghost use Rattle.graph.specs.Drawing.{texts, problem_line, edge_line, row_text, table_text, drawn_answer, graph_made};
 
-use graph::Drawn;
-use meaning::Outcome;
+use meaning::{Fault, Refusal};
 
 // The vertex of a probe; 0 of node 0, which no edge of a sheet has.
 fn vertex(x: usize) -> u16
     requires { x < places }
     ensures { result ≡ x - 1 }
 {
-    if x == 0 {
-        return 0;
-    }
-    (x - 1) as u16
+    x.saturating_sub(1) as u16
 }
 
 // Puts the line of an edge at a place, or nothing where there is none; says where it ends.
@@ -40,10 +37,8 @@ fn put_row(table: &[[bool; 65]; 65], x: usize, out: &mut [u8], at: usize) -> usi
 {
     let a = vertex(x);
     let mut end = at;
-    let mut y = 0;
-    while y < 65 {
+    for y in 0..65 {
         end = put_edge((x < y) & table[x][y], a, vertex(y), out, end);
-        y += 1;
     }
     end
 }
@@ -53,10 +48,8 @@ fn put_edges(table: &[[bool; 65]; 65], out: &mut [u8], at: usize) -> usize
     ensures { Fits out.old at (texts places (row_text table.now)) out.new result }
 {
     let mut end = at;
-    let mut x = 0;
-    while x < 65 {
+    for x in 0..65 {
         end = put_row(table, x, out, end);
-        x += 1;
     }
     end
 }
@@ -78,35 +71,34 @@ fn put_table(vertices: u8, table: &[[bool; 65]; 65], out: &mut [u8], at: usize) 
     put_edges(table, out, next)
 }
 
-// The graph of any sheet as text, into any buffer, or a numbered refusal.
-pub fn graph_made(sheet: &[u8], out: &mut [u8]) -> Drawn
-    ensures part { result.bytes ≤ length out.new }
-    ensures answer { result ≡ (graph_made sheet.now (length out.old)).answer }
+// Copies the text of a table whole into a buffer, if it is long enough; says how long the text is. It keeps its room on the stack to itself: inlined, it would hold it while the table is made.
+#[inline(never)]
+fn copy_text(vertices: u8, table: &[[bool; 65]; 65], out: &mut [u8]) -> Option<usize>
+    requires { length (table_text vertices table.now) ≤ 15081 }
+    ensures { Copied (table_text vertices table.now) out.old out.new result }
+{
+    let mut text = [0u8; graph::ANY_GRAPH];
+    let n = put_table(vertices, table, &mut text, 0);
+    if out.len() < n {
+        return None;
+    }
+    Some(lines::put_words(&text[..n], out, 0))
+}
+
+// The graph of any sheet as text, into any buffer: its bytes, or the refusal.
+pub fn graph_made(sheet: &[u8], out: &mut [u8]) -> Result<usize, Refusal>
+    ensures part { (drawn_answer result).bytes ≤ length out.new }
+    ensures answer { drawn_answer result ≡ (graph_made sheet.now (length out.old)).answer }
     ensures buffer { out.new ≡ front out.old (graph_made sheet.now (length out.old)).written }
 {
-    let tree = sheet::read(sheet);
-    let outcome = tree.outcome;
-    if outcome.number != 0 {
-        return Drawn { outcome, bytes: 0 };
-    }
-    let p = tree.probes;
-    let parents = tree.parents;
-    let table = sheet::conflicts(sheet, p, parents);
-    let mut text = [0u8; graph::ANY_GRAPH];
-    let n = put_table(p, &table, &mut text, 0);
-    if out.len() < n {
-        let short = Outcome {
-            number: 21,
+    let tree = sheet::read(sheet)?;
+    let table = tree.conflicts(sheet);
+    let copied = copy_text(tree.probes, &table, out);
+    let Some(bytes) = copied else {
+        return Err(Refusal {
+            fault: Fault::TextRoom,
             place: 0,
-        };
-        return Drawn {
-            outcome: short,
-            bytes: 0,
-        };
-    }
-    let bytes = lines::put_words(&text[..n], out, 0);
-    Drawn {
-        outcome: meaning::ACCEPTED,
-        bytes,
-    }
+        });
+    };
+    Ok(bytes)
 }

@@ -1,28 +1,41 @@
 -- What is answered where the operating system decides: the exit status.
-use Rattle.std.specs.Prelude.{◌≡◌, cond, ◌⊎◌, ℕ, eqb}
+use Rattle.std.specs.Prelude.{◌≡◌, cond, ◌⊎◌, ℕ, eqb, Result, Ok, Err}
 use Rattle.meaning.specs.declared.Outcome.{Outcome}
+use Rattle.files.specs.declared.Answer.{Answer}
+use Rattle.files.specs.declared.Answer.TheVariants.{Answered, Refused}
+use Rattle.files.specs.declared.Failed.{Failed}
 
--- the exit status, a digit: answered, refused, or not answered at all
-abbrev pub answered : ℕ
-answered = 48
+-- the exit status: answered, refused, or not answered at all
+abbrev pub Status : Type 0
+Status = Result Answer Failed
 
-abbrev pub refused : ℕ
-refused = 49
+abbrev pub answered : Status
+answered = Ok Answered
 
-abbrev pub failed : ℕ
-failed = 50
+abbrev pub refused : Status
+refused = Ok Refused
+
+abbrev pub failed : Status
+failed = Err (record {})
+
+-- the number that a program ends with
+abbrev pub exit_number : Status → ℕ
+exit_number (Ok Answered) = 0
+exit_number (Ok Refused) = 1
+exit_number (Err _) = 2
 
 -- the status of an answer, by its number
-abbrev pub number_status : (number : ℕ) → ℕ
+abbrev pub number_status : (number : ℕ) → Status
 number_status number = cond (eqb number 0) answered refused
 
-abbrev pub status_of : Outcome → ℕ
+abbrev pub status_of : Outcome → Status
 status_of outcome = number_status outcome.number
 
--- one of the three
-abbrev pub IsStatus : (r : ℕ) → Type 0
-IsStatus r = (r ≡ answered) ⊎ ((r ≡ refused) ⊎ (r ≡ failed))
+-- the status of what was made, or refused
+abbrev pub status_by : {A E : Type 0} → Result A E → Status
+status_by (Ok _) = answered
+status_by (Err _) = refused
 
 -- a status, unless the system fails
-abbrev pub OrFailed : (status r : ℕ) → Type 0
+abbrev pub OrFailed : (status r : Status) → Type 0
 OrFailed status r = (r ≡ status) ⊎ (r ≡ failed)

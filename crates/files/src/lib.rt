@@ -2,27 +2,43 @@
 // what is said about them, and the exit status.
 #![tactic(auto)]
 
-ghost use Rattle.std.specs.Prelude.{◌≡◌, ◌+◌, ◌≤◌, min, length, replicate, IfSome};
-ghost use Rattle.std.proofs.lemmas.List.Edits.{sets};
-ghost use Rattle.meaning.specs.Plan.{deciding_plan};
-ghost use Rattle.meaning.specs.Lister.{any_text};
-ghost use Rattle.lines.specs.Line.{fitting};
-ghost use Rattle.files.specs.Status.{answered, failed, status_of, OrFailed, IsStatus};
+ghost use Rattle.std.specs.Prelude.{◌≡◌, ◌≤◌, ◌++◌, min, length, replicate, IfOk, IfSome, MatchOption, Ok};
+ghost use Rattle.lines.specs.Text.{Says};
+ghost use Rattle.files.specs.Status.{status_by, exit_number, OrFailed};
 ghost use Rattle.files.specs.Name.{is_dash, plain_byte, flattened};
 
-use meaning::Outcome;
+use lines::Text;
 use std::env::{Env, FillError};
 use std::fs::{File, OpenOptions};
 use std::io::{Error, ErrorKind, Print, Read, Stdin, Write};
 use std::random::RandomSource;
 use std::{fs, io};
 
-// The exit status: answered, refused, or not answered at all.
-pub const ANSWERED: u8 = b'0';
+// What is answered: what was asked for, or a refusal.
+#[derive(Clone, Copy, PartialEq, Eq)]
+pub enum Answer {
+    Answered,
+    Refused,
+}
 
-pub const REFUSED: u8 = b'1';
+// That it could not be answered at all; why has been said.
+#[derive(Clone, Copy, PartialEq, Eq)]
+pub struct Failed;
 
-pub const FAILED: u8 = b'2';
+// The exit status.
+pub type Status = Result<Answer, Failed>;
+
+impl Answer {
+    // What is answered of what was made, or refused.
+    pub fn of<T, E>(made: &Result<T, E>) -> Answer
+        ensures { Ok result ≡ status_by made.now }
+    {
+        match made {
+            Ok(_) => Answer::Answered,
+            Err(_) => Answer::Refused,
+        }
+    }
+}
 
 // Where words go: to standard output, or to standard error where standard output takes what is made.
 #[derive(Clone, Copy)]
@@ -50,30 +66,28 @@ impl Read for Source {
 // Room for any name that the system takes.
 const ANY_NAME: usize = 4096;
 
+// Room for any line that is said: a word or a name, and why.
+const ANY_LINE: usize = 4500;
+
+// A line as it is said.
+type Line = Text<ANY_LINE>;
+
 // Linux's number for a name that is too long.
 const NAME_TOO_LONG: i32 = 36;
 
-// Room for any plan of ours, and for as much of another as decides its verdict; all zeros.
-pub fn plan_room() -> [u8; meaning::DECIDING_PLAN]
-    ensures zeros { result ≡ replicate deciding_plan 0 }
-    ensures long { deciding_plan ≡ length result }
+// Room for so many bytes, all zeros.
+pub fn room<const N: usize>() -> [u8; N]
+    ensures zeros { result ≡ replicate N 0 }
+    ensures long { N ≡ length result }
 {
-    [0; meaning::DECIDING_PLAN]
+    [0; N]
 }
 
-// Room for any text of the lister; all zeros.
-pub fn text_room() -> [u8; meaning::ANY_TEXT]
-    ensures zeros { result ≡ replicate any_text 0 }
-    ensures long { any_text ≡ length result }
-{
-    [0; meaning::ANY_TEXT]
-}
-
-// Room for a name.
+// Room for a name; a function of its own, since its contract says how many bytes.
 pub fn name_room() -> [u8; ANY_NAME]
     ensures { 4096 ≡ length result }
 {
-    [0; ANY_NAME]
+    room()
 }
 
 // As many bytes as were answered; never more than buf has, which the answers' contracts give as well.
@@ -81,14 +95,7 @@ pub fn within(n: usize, buf: &[u8]) -> usize
     ensures answer { result ≡ min n (length buf.now) }
     ensures part { result ≤ length buf.now }
 {
-    if n < buf.len() { n } else { buf.len() }
-}
-
-// A status, unless what it stands for could not be done.
-fn if_done(is_done: bool, status: u8) -> u8
-    ensures { OrFailed status result }
-{
-    if is_done { status } else { FAILED }
+    n.min(buf.len())
 }
 
 // Writes bytes to a stream at once.
@@ -99,107 +106,84 @@ pub fn put(rt: &HostRuntime, to: Stream, bytes: &[u8]) -> io::Result<()> {
     }
 }
 
-// An error in the system's words, without its number; puts them at a place and says where they end.
-fn put_reason(error: &Error, line: &mut [u8], at: usize) -> usize {
+// Says an error in the system's words, without its number.
+fn say_reason(line: &mut Line, error: &Error) {
     let mut room = [0u8; 300];
     let mut rest = &mut room[..];
     let _ = write!(rest, "{error}");
     let left = rest.len();
     let end = within(300usize.saturating_sub(left), &room);
     let said = str::from_utf8(&room[..end]).unwrap_or("");
-    let words = match said.split_once(" (os error ") {
-        Some((words, _)) => words,
-        None => said,
-    };
-    lines::put_words(words.as_bytes(), line, at)
+    let words = said
+        .split_once(" (os error ")
+        .map_or(said, |(words, _)| words);
+    line.words(words.as_bytes());
+}
+
+// Says on standard error, behind what failed, why.
+fn say_why(rt: &HostRuntime, line: &mut Line, error: &Error) {
+    line.words(b": ");
+    say_reason(line, error);
+    line.words(b"\n");
+    let _ = put(rt, Stream::Errors, line.as_slice());
 }
 
 // Says on standard error what failed and why.
-pub fn fail(rt: &HostRuntime, what: &[u8], error: &Error) {
-    let mut line = [0u8; 4500];
-    let a = lines::put_words(what, &mut line, 0);
-    let b = lines::put_words(b": ", &mut line, a);
-    let c = put_reason(error, &mut line, b);
-    let d = lines::put_words(b"\n", &mut line, c);
-    let n = within(d, &line);
-    let _ = put(rt, Stream::Errors, &line[..n]);
+pub fn fail(rt: &HostRuntime, what: &[u8], error: &Error) -> Failed {
+    let mut line = Line::new();
+    line.words(what);
+    say_why(rt, &mut line, error);
+    Failed
 }
 
 // Writes a text at once; answers the status, after saying so where it could not be written.
-pub fn say(rt: &HostRuntime, to: Stream, text: &[u8], status: u8) -> u8
+pub fn say(rt: &HostRuntime, to: Stream, text: &[u8], status: Status) -> Status
     ensures { OrFailed status result }
 {
-    let written = put(rt, to, text);
-    if let Err(error) = &written {
-        fail(rt, b"the answer cannot be written", error);
+    match put(rt, to, text) {
+        Ok(()) => status,
+        Err(error) => Err(fail(rt, b"the answer cannot be written", &error)),
     }
-    if_done(written.is_ok(), status)
 }
 
-// Says an answer about a sheet, a plan or a graph.
-pub fn say_answer(rt: &HostRuntime, to: Stream, text: &[u8], outcome: Outcome) -> u8
-    ensures { OrFailed (status_of outcome) result }
+// Says an answer about a sheet, a plan or a graph, by what was made.
+pub fn say_answer<T, E>(rt: &HostRuntime, to: Stream, text: &[u8], made: &Result<T, E>) -> Status
+    ensures { OrFailed (status_by made.now) result }
 {
-    if outcome.number == 0 {
-        return say(rt, to, text, ANSWERED);
-    }
-    say(rt, to, text, REFUSED)
+    say(rt, to, text, Ok(Answer::of(made)))
 }
 
 // A byte of a name as it is shown: a byte that would end the line, or ring a bell, is a question mark.
 fn plain(byte: u8) -> u8
     ensures { result ≡ plain_byte byte }
 {
-    if (byte < 32) | (byte == 127) {
-        return b'?';
-    }
-    byte
+    if byte.is_ascii_control() { b'?' } else { byte }
 }
 
-// Makes a name stay on one line, whatever its bytes are.
-fn flatten(name: &mut [u8])
-    ensures { name.new ≡ flattened name.old }
+// Says a word and a name as it is shown, which stays on one line, whatever its bytes are.
+fn say_shown(line: &mut Line, word: &[u8], path: &[u8])
+    ensures { Says 4500 line.old (word.now ++ flattened path.now) line.new }
 {
-    let mut i = 0;
-    while i < name.len() {
-        name[i] = plain(name[i]);
-        i += 1;
+    line.words(word);
+    for byte in path {
+        line.words(&[plain(*byte)]);
     }
-}
-
-// A name as it is shown, or nothing where it is longer than the buffer.
-fn shown(path: &[u8], name: &mut [u8]) -> usize
-    ensures answer { result ≡ length (fitting name.old 0 path.now) }
-    ensures buffer { name.new ≡ flattened (sets name.old 0 (fitting name.old 0 path.now)) }
-    ensures part { result ≤ length name.new }
-{
-    let n = lines::put_words(path, name, 0);
-    flatten(name);
-    n
 }
 
 // Says a word and a name, on one line.
-pub fn say_named(rt: &HostRuntime, to: Stream, word: &[u8], path: &[u8]) -> u8
-    ensures { result ≡ failed }
-{
-    let mut name = name_room();
-    let n = shown(path, &mut name);
-    let mut line = [0u8; 4200];
-    let a = lines::put_words(word, &mut line, 0);
-    let b = lines::put_words(&name[..n], &mut line, a);
-    let d = lines::put_words(b"\n", &mut line, b);
-    let m = within(d, &line);
-    say(rt, to, &line[..m], FAILED);
-    FAILED
+pub fn say_named(rt: &HostRuntime, to: Stream, word: &[u8], path: &[u8]) -> Failed {
+    let mut line = Line::new();
+    say_shown(&mut line, word, path);
+    line.words(b"\n");
+    let _ = say(rt, to, line.as_slice(), Err(Failed));
+    Failed
 }
 
 // Says which file failed and, on standard error, why.
-pub fn say_failed(rt: &HostRuntime, to: Stream, word: &[u8], path: &[u8], error: &Error) -> u8
-    ensures { result ≡ failed }
-{
-    let mut name = name_room();
-    let n = shown(path, &mut name);
-    fail(rt, &name[..n], error);
+pub fn say_failed(rt: &HostRuntime, to: Stream, word: &[u8], path: &[u8], error: &Error) -> Failed {
+    let mut line = Line::new();
+    say_shown(&mut line, b"", path);
+    say_why(rt, &mut line, error);
     say_named(rt, to, word, path)
 }
 
@@ -232,78 +216,95 @@ fn synced(file: io::Result<File>) -> io::Result<()> {
 }
 
 // Answers the exit status, once no answer can be lost any more.
-pub fn tell(rt: &HostRuntime, status: u8) -> u8
+pub fn tell(rt: &HostRuntime, status: Status) -> Status
     ensures { OrFailed status result }
 {
     let settled = settle(rt);
-    if let Err(error) = &settled {
-        if status != FAILED {
-            fail(rt, b"standard output", error);
-        }
+    let answer = status?;
+    match settled {
+        Ok(()) => Ok(answer),
+        Err(error) => Err(fail(rt, b"standard output", &error)),
     }
-    if_done(settled.is_ok(), status)
 }
 
 // The number that the program ends with.
-pub fn exit_number(status: u8) -> u8
-    ensures { IsStatus status → result + answered ≡ status }
+pub fn exit_number(status: Status) -> u8
+    ensures { result ≡ exit_number status }
 {
     match status {
-        ANSWERED => 0,
-        REFUSED => 1,
-        _ => 2,
+        Ok(Answer::Answered) => 0,
+        Ok(Answer::Refused) => 1,
+        Err(Failed) => 2,
     }
 }
 
 // How many arguments there are; more than seven count as eight, since no command takes so many.
 pub fn arg_count(rt: &HostRuntime) -> usize {
-    let mut count = 0;
-    while count < 8 {
-        if let Err(FillError::NotPresent) = rt.arg(count, &mut []) {
-            return count;
-        }
-        count += 1;
-    }
-    count
+    (0..8)
+        .position(|i| matches!(rt.arg(i, &mut []), Err(FillError::NotPresent)))
+        .unwrap_or(8)
 }
 
 // Puts argument i into a word; says how long it is, or nothing where there is none or it is too long.
 pub fn arg(rt: &HostRuntime, i: usize, word: &mut [u8]) -> Option<usize>
     ensures { IfSome result (λ n. n ≤ length word.new) }
 {
-    let Ok(n) = rt.arg(i, word) else {
-        return None;
-    };
-    Some(within(n, word))
+    rt.arg(i, word).ok()
 }
 
-// Where the starting script says what is to be written goes to: what is read itself, or what is written straight; else to a regular file or a new one.
+// The argument in which the starting script says what stands where something is to be written.
 const OUTPUT_IS: usize = 1;
 
-const WHAT_IS_READ: u8 = b'=';
+// That is what is read itself, or what is written straight; else a regular file or none.
+#[derive(Clone, Copy)]
+enum Target {
+    WhatIsRead,
+    Straight,
+    Beside,
+}
 
-const STRAIGHT: u8 = b'>';
+impl From<u8> for Target {
+    fn from(byte: u8) -> Target {
+        match byte {
+            b'=' => Target::WhatIsRead,
+            b'>' => Target::Straight,
+            _ => Target::Beside,
+        }
+    }
+}
 
 // Whether a name stands for standard input or output.
 pub fn is_dash(path: &[u8]) -> bool
     ensures { result ≡ is_dash path.now }
 {
-    path.len() == 1 && laws::number_at(path, 0) == b'-'
+    matches!(path, [b'-'])
 }
 
 // A name as the system's calls take it here.
 fn text_of(path: &[u8]) -> io::Result<&str> {
-    match str::from_utf8(path) {
-        Ok(text) => Ok(text),
-        Err(_) => Err(Error::new(ErrorKind::InvalidFilename, "a name that is not UTF-8")),
-    }
+    str::from_utf8(path).map_err(|_| Error::new(
+        ErrorKind::InvalidFilename,
+        "a name that is not UTF-8",
+    ))
 }
 
-// What was read of a file: so many bytes, and why no more where that is not its end.
+// What was read of a file: so many bytes, and why no more where that is not its end. No Result: a faulty line of a text decides, whether or not what is behind it could be read.
 #[derive(Clone, Copy)]
 pub struct Got {
     pub bytes: usize,
     pub failed: Option<Error>,
+}
+
+impl Got {
+    // How many bytes were read to the file's end, or as far as there was room.
+    pub fn whole(self) -> io::Result<usize>
+        ensures { MatchOption self.failed (result ≡ Ok self.bytes) (λ error. result ≡ Err error) }
+    {
+        match self.failed {
+            None => Ok(self.bytes),
+            Some(error) => Err(error),
+        }
+    }
 }
 
 // Reads until a buffer is full, a file ends or reading it fails.
@@ -323,16 +324,9 @@ pub fn read_full(from: &mut Source, buf: &mut [u8]) -> Got
         }
     }
     Got {
-        bytes: within(done, buf),
+        bytes: done,
         failed,
     }
-}
-
-// Answered where a file was read to its end, or as far as there was room.
-pub fn end_status(got: Got) -> u8
-    ensures { OrFailed answered result }
-{
-    if_done(got.failed.is_none(), ANSWERED)
 }
 
 fn open_read(rt: &HostRuntime, path: &[u8]) -> io::Result<Source> {
@@ -343,84 +337,76 @@ fn open_read(rt: &HostRuntime, path: &[u8]) -> io::Result<Source> {
 }
 
 // Opens a file to be read, or says that it cannot be read.
-pub fn open_named(rt: &HostRuntime, to: Stream, path: &[u8]) -> Option<Source> {
-    match open_read(rt, path) {
-        Ok(source) => Some(source),
-        Err(error) => {
-            say_failed(rt, to, b"unreadable ", path, &error);
-            None
-        }
-    }
-}
-
-// How many bytes of a buffer were read, unless they could not be.
-fn if_read(is_read: bool, n: usize, buf: &[u8]) -> Option<usize>
-    requires { n ≤ length buf.now }
-    ensures { IfSome result (λ m. m ≤ length buf.now) }
-{
-    if is_read { Some(n) } else { None }
+pub fn open_named(rt: &HostRuntime, to: Stream, path: &[u8]) -> Result<Source, Failed> {
+    open_read(rt, path).map_err(|error| say_failed(rt, to, b"unreadable ", path, &error))
 }
 
 // Says that an argument is too long to be a name.
-fn say_too_long(rt: &HostRuntime, to: Stream, word: &[u8]) {
+fn say_too_long(rt: &HostRuntime, to: Stream, word: &[u8]) -> Failed {
     let error = Error::from_raw_os_error(NAME_TOO_LONG);
-    say_failed(rt, to, word, b"a name that is too long", &error);
+    say_failed(rt, to, word, b"a name that is too long", &error)
 }
 
 // Puts the name that argument i is into path; says how long it is, or that it is too long.
-pub fn name_to_read(rt: &HostRuntime, to: Stream, i: usize, path: &mut [u8]) -> Option<usize>
-    ensures { IfSome result (λ n. n ≤ length path.new) }
+fn name_of(
+    rt: &HostRuntime,
+    to: Stream,
+    word: &[u8],
+    i: usize,
+    path: &mut [u8],
+) -> Result<usize, Failed>
+    ensures { IfOk result (λ n. n ≤ length path.new) }
 {
-    let n = arg(rt, i, path);
-    if n.is_none() {
-        say_too_long(rt, to, b"unreadable ");
+    match arg(rt, i, path) {
+        Some(n) => Ok(n),
+        None => Err(say_too_long(rt, to, word)),
     }
-    n
 }
 
-// Reads the file that argument i names into buf; answers how many bytes, or nothing after saying that it cannot be read.
-pub fn read_file(rt: &HostRuntime, to: Stream, i: usize, buf: &mut [u8]) -> Option<usize>
-    ensures { IfSome result (λ n. n ≤ length buf.new) }
+// The same of a name that is read.
+pub fn name_to_read(
+    rt: &HostRuntime,
+    to: Stream,
+    i: usize,
+    path: &mut [u8],
+) -> Result<usize, Failed>
+    ensures { IfOk result (λ n. n ≤ length path.new) }
+{
+    name_of(rt, to, b"unreadable ", i, path)
+}
+
+// Reads the file that argument i names into buf; answers how many bytes, or says that it cannot be read.
+pub fn read_file(rt: &HostRuntime, to: Stream, i: usize, buf: &mut [u8]) -> Result<usize, Failed>
+    ensures { IfOk result (λ n. n ≤ length buf.new) }
 {
     let mut path = name_room();
     let n = name_to_read(rt, to, i, &mut path)?;
     let mut source = open_named(rt, to, &path[..n])?;
-    let got = read_full(&mut source, buf);
-    if let Some(error) = &got.failed {
-        say_failed(rt, to, b"unreadable ", &path[..n], error);
+    match read_full(&mut source, buf).whole() {
+        Ok(bytes) => Ok(bytes),
+        Err(error) => Err(say_failed(rt, to, b"unreadable ", &path[..n], &error)),
     }
-    if_read(end_status(got) == ANSWERED, got.bytes, buf)
 }
 
 // Where the folder's part of a path ends.
-fn folder_end(path: &[u8]) -> usize {
-    let mut end = 0;
-    let mut i = 0;
-    while i < path.len() {
-        if path[i] == b'/' {
-            end = i + 1;
-        }
-        i += 1;
-    }
-    end
+fn folder_end(path: &[u8]) -> usize
+    ensures { result ≤ length path.now }
+{
+    path.iter()
+        .rposition(|byte| *byte == b'/')
+        .map_or(0, |i| i + 1)
 }
 
 // Eight letters that no other run has.
 fn own_letters(rt: &HostRuntime) -> [u8; 8] {
     let mut letters = [0u8; 8];
     let _ = rt.fill_bytes(&mut letters);
-    let mut i = 0;
-    while i < 8 {
-        letters[i] = b'a' + letters[i] % 16;
-        i += 1;
-    }
-    letters
+    letters.map(|byte| b'a' + byte % 16)
 }
 
-// Puts a name of its own in the same folder into name; answers how long it is.
+// Puts a name of its own in the same folder into name; answers how long it is. No `Text`: what has no room here is left out whole, not cut off, and a name without its letters is a name.
 fn name_beside(rt: &HostRuntime, path: &[u8], name: &mut [u8]) -> usize {
-    let n = within(folder_end(path), path);
-    let a = lines::put_words(&path[..n], name, 0);
+    let a = lines::put_words(&path[..folder_end(path)], name, 0);
     let b = lines::put_words(b".yard-", name, a);
     lines::put_words(&own_letters(rt), name, b)
 }
@@ -488,49 +474,36 @@ fn write_as(rt: &HostRuntime, path: &[u8], bytes: &[u8], is_straight: bool) -> i
 }
 
 // What the starting script knows of the file that a plan or a text is to go to.
-fn output(rt: &HostRuntime) -> u8 {
+fn output(rt: &HostRuntime) -> Target {
     let mut word = [0u8; 1];
     let _ = rt.arg(OUTPUT_IS, &mut word);
-    word[0]
+    Target::from(word[0])
 }
 
-// Writes a plan, a book or a text to the file of a name, which is never the sheet nor a book's plan; answers whether it could, after saying so where not.
-fn is_written_to(rt: &HostRuntime, to: Stream, path: &[u8], bytes: &[u8]) -> bool {
-    let kind = output(rt);
-    if kind == WHAT_IS_READ {
+// Writes a plan, a book or a text to the file of a name, which is never the sheet nor a book's plan, or says that it cannot.
+fn write_to(rt: &HostRuntime, to: Stream, path: &[u8], bytes: &[u8]) -> Result<(), Failed> {
+    let target = output(rt);
+    if let Target::WhatIsRead = target {
         say_named(
             rt,
             Stream::Errors,
             b"what is read is not written over: ",
             path,
         );
-        say_named(rt, to, b"unwritable ", path);
-        return false;
+        return Err(say_named(rt, to, b"unwritable ", path));
     }
-    match write_as(rt, path, bytes, kind == STRAIGHT) {
-        Ok(()) => true,
-        Err(error) => {
-            say_failed(rt, to, b"unwritable ", path, &error);
-            false
-        }
-    }
+    write_as(rt, path, bytes, matches!(target, Target::Straight)).map_err(|error| say_failed(
+        rt,
+        to,
+        b"unwritable ",
+        path,
+        &error,
+    ))
 }
 
 // The same of the file that argument i names.
-fn is_written(rt: &HostRuntime, to: Stream, i: usize, bytes: &[u8]) -> bool {
+pub fn write_file(rt: &HostRuntime, to: Stream, i: usize, bytes: &[u8]) -> Result<(), Failed> {
     let mut path = name_room();
-    match arg(rt, i, &mut path) {
-        Some(n) => is_written_to(rt, to, &path[..n], bytes),
-        None => {
-            say_too_long(rt, to, b"unwritable ");
-            false
-        }
-    }
-}
-
-// The same; the answer is a status.
-pub fn write_file(rt: &HostRuntime, to: Stream, i: usize, bytes: &[u8]) -> u8
-    ensures { OrFailed answered result }
-{
-    if_done(is_written(rt, to, i, bytes), ANSWERED)
+    let n = name_of(rt, to, b"unwritable ", i, &mut path)?;
+    write_to(rt, to, &path[..n], bytes)
 }

@@ -10,17 +10,20 @@ ghost use Rattle.meaning.specs.Answer.{plan_made, merged_made};
 ghost use Rattle.meaning.specs.Judge.{judgement_in, judgement, choice};
 ghost use Rattle.meaning.specs.Book.{book_made};
 ghost use Rattle.meaning.specs.Telephone.{asked};
+ghost use Rattle.meaning.specs.Results.{plan_answer, judge_answer, book_answer, told_answer, merged_told_answer};
 ghost use Rattle.meaning.specs.Merged.{merged_asked};
-ghost use Rattle.arrangement.specs.Arranged.{spread_of, worst_sheet, best_sheet, arranged};
+ghost use Rattle.arrangement.specs.Arranged.{spread_of, spread_answer, worst_sheet, best_sheet, arranged};
 ghost use Rattle.listing.specs.Listed.{listed_length, listed_in};
-ghost use Rattle.graph.specs.Drawing.{graph_made};
+ghost use Rattle.graph.specs.Drawing.{drawn_answer, graph_made};
 ghost use Rattle.graph.specs.Reading.{graph_read};
+ghost use Rattle.graph.specs.Misreading.{graph_answer};
 ghost use Rattle.gateway.specs.Flat.{flat_planned, flat_verdict, flat_booked, flat_told, flat_merged_told, flat_spread, flat_drawn, flat_graph, choice_number};
 ghost use Rattle.gateway.specs.Rows.{word, row_words};
 
 use arrangement::Spread;
-use graph::{Drawn, Graph};
-use meaning::{Booked, Choice, Judgement, MergedTold, Planned, Told};
+use graph::Misread;
+use meaning::{Blame, Choice, Limits, MergedLimits, NOBODY, Plan, Refusal};
+use std::array;
 
 // What a planner answers, with C's layout.
 #[repr(C)]
@@ -106,108 +109,179 @@ pub struct YardGraph {
     pub vertices: u8,
 }
 
-fn planned(r: Planned) -> YardPlanned
-    ensures { result ≡ flat_planned r }
-{
-    let outcome = r.outcome;
-    YardPlanned {
-        number: outcome.number,
-        place: outcome.place,
-        colours: r.colours,
-        slots: r.slots,
-        bytes: r.bytes,
+impl From<Result<Plan, Refusal>> for YardPlanned {
+    ghost from_gives = { λ r flat. flat ≡ flat_planned (plan_answer r) };
+
+    fn from(r: Result<Plan, Refusal>) -> YardPlanned {
+        match r {
+            Ok(plan) => YardPlanned {
+                number: 0,
+                place: 0,
+                colours: plan.colours,
+                slots: plan.slots,
+                bytes: plan.bytes,
+            },
+            Err(refusal) => YardPlanned {
+                number: refusal.fault.number(),
+                place: refusal.place,
+                colours: 0,
+                slots: 0,
+                bytes: 0,
+            },
+        }
     }
 }
 
-fn verdict(r: Judgement) -> YardVerdict
-    ensures { result ≡ flat_verdict r }
-{
-    let judged = r.verdict;
-    let outcome = judged.outcome;
-    let names = r.names;
-    YardVerdict {
-        number: outcome.number,
-        place: outcome.place,
-        slots: judged.slots,
-        first: names.first,
-        second: names.second,
+impl From<Result<u16, Blame>> for YardVerdict {
+    ghost from_gives = { λ r flat. flat ≡ flat_verdict (judge_answer r) };
+
+    fn from(r: Result<u16, Blame>) -> YardVerdict {
+        match r {
+            Ok(slots) => YardVerdict {
+                number: 0,
+                place: 0,
+                slots,
+                first: NOBODY.first,
+                second: NOBODY.second,
+            },
+            Err(blame) => YardVerdict {
+                number: blame.refusal.fault.number(),
+                place: blame.refusal.place,
+                slots: 0,
+                first: blame.names.first,
+                second: blame.names.second,
+            },
+        }
     }
 }
 
-fn booked(r: Booked) -> YardBooked
-    ensures { result ≡ flat_booked r }
-{
-    let outcome = r.outcome;
-    let names = r.names;
-    YardBooked {
-        number: outcome.number,
-        place: outcome.place,
-        first: names.first,
-        second: names.second,
-        bytes: r.bytes,
+impl From<Result<usize, Blame>> for YardBooked {
+    ghost from_gives = { λ r flat. flat ≡ flat_booked (book_answer r) };
+
+    fn from(r: Result<usize, Blame>) -> YardBooked {
+        match r {
+            Ok(bytes) => YardBooked {
+                number: 0,
+                place: 0,
+                first: 0,
+                second: 0,
+                bytes,
+            },
+            Err(blame) => YardBooked {
+                number: blame.refusal.fault.number(),
+                place: blame.refusal.place,
+                first: blame.names.first,
+                second: blame.names.second,
+                bytes: 0,
+            },
+        }
     }
 }
 
-fn told(r: Told) -> YardTold
-    ensures { result ≡ flat_told r }
-{
-    let outcome = r.outcome;
-    YardTold {
-        number: outcome.number,
-        place: outcome.place,
-        least: r.least,
-        ours: r.ours,
-        most: r.most,
-        times: r.times,
+impl From<Result<Limits, Refusal>> for YardTold {
+    ghost from_gives = { λ r flat. flat ≡ flat_told (told_answer r) };
+
+    fn from(r: Result<Limits, Refusal>) -> YardTold {
+        match r {
+            Ok(limits) => YardTold {
+                number: 0,
+                place: 0,
+                least: limits.least,
+                ours: limits.ours,
+                most: limits.most,
+                times: limits.times,
+            },
+            Err(refusal) => YardTold {
+                number: refusal.fault.number(),
+                place: refusal.place,
+                least: 0,
+                ours: 0,
+                most: 0,
+                times: 0,
+            },
+        }
     }
 }
 
-fn merged_told(r: MergedTold) -> YardMergedTold
-    ensures { result ≡ flat_merged_told r }
-{
-    let outcome = r.outcome;
-    let least = r.least;
-    let ours = r.ours;
-    let most = r.most;
-    YardMergedTold {
-        number: outcome.number,
-        place: outcome.place,
-        least,
-        ours,
-        most,
+impl From<Result<MergedLimits, Refusal>> for YardMergedTold {
+    ghost from_gives = { λ r flat. flat ≡ flat_merged_told (merged_told_answer r) };
+
+    fn from(r: Result<MergedLimits, Refusal>) -> YardMergedTold {
+        match r {
+            Ok(merged) => YardMergedTold {
+                number: 0,
+                place: 0,
+                least: merged.least,
+                ours: merged.ours,
+                most: merged.most,
+            },
+            Err(refusal) => YardMergedTold {
+                number: refusal.fault.number(),
+                place: refusal.place,
+                least: 0,
+                ours: 0,
+                most: 0,
+            },
+        }
     }
 }
 
-fn spread(r: Spread) -> YardSpread
-    ensures { result ≡ flat_spread r }
-{
-    let outcome = r.outcome;
-    YardSpread {
-        number: outcome.number,
-        place: outcome.place,
-        best: r.best,
-        worst: r.worst,
+impl From<Result<Spread, Refusal>> for YardSpread {
+    ghost from_gives = { λ r flat. flat ≡ flat_spread (spread_answer r) };
+
+    fn from(r: Result<Spread, Refusal>) -> YardSpread {
+        match r {
+            Ok(spread) => YardSpread {
+                number: 0,
+                place: 0,
+                best: spread.best,
+                worst: spread.worst,
+            },
+            Err(refusal) => YardSpread {
+                number: refusal.fault.number(),
+                place: refusal.place,
+                best: 0,
+                worst: 0,
+            },
+        }
     }
 }
 
-fn drawn(r: Drawn) -> YardDrawn
-    ensures { result ≡ flat_drawn r }
-{
-    let outcome = r.outcome;
-    YardDrawn {
-        number: outcome.number,
-        place: outcome.place,
-        bytes: r.bytes,
+impl From<Result<usize, Refusal>> for YardDrawn {
+    ghost from_gives = { λ r flat. flat ≡ flat_drawn (drawn_answer r) };
+
+    fn from(r: Result<usize, Refusal>) -> YardDrawn {
+        match r {
+            Ok(bytes) => YardDrawn {
+                number: 0,
+                place: 0,
+                bytes,
+            },
+            Err(refusal) => YardDrawn {
+                number: refusal.fault.number(),
+                place: refusal.place,
+                bytes: 0,
+            },
+        }
     }
 }
 
-fn graph(r: Graph) -> YardGraph
-    ensures { result ≡ flat_graph r }
-{
-    YardGraph {
-        number: r.number,
-        place: r.place,
-        vertices: r.vertices,
+impl From<Result<u8, Misread>> for YardGraph {
+    ghost from_gives = { λ r flat. flat ≡ flat_graph (graph_answer r) };
+
+    fn from(r: Result<u8, Misread>) -> YardGraph {
+        match r {
+            Ok(vertices) => YardGraph {
+                number: 0,
+                place: 0,
+                vertices,
+            },
+            Err(misread) => YardGraph {
+                number: misread.fault.number(),
+                place: misread.place,
+                vertices: 0,
+            },
+        }
     }
 }
 
@@ -224,11 +298,9 @@ fn word(row: &[bool; 65]) -> u64
     ensures { result ≡ word (λ k. get_or row.now (k + 1) false) }
 {
     let mut w: u64 = 0;
-    let mut k: u32 = 0;
-    while k < 64 {
+    for k in 0..64 {
         let y = k as usize + 1;
         w += bit_if(row[y], k);
-        k += 1;
     }
     w
 }
@@ -237,13 +309,7 @@ fn word(row: &[bool; 65]) -> u64
 fn row_words(table: &[[bool; 65]; 65]) -> [u64; 64]
     ensures { result ≡ row_words table.now }
 {
-    let mut rows = [0u64; 64];
-    let mut j: usize = 0;
-    while j < 64 {
-        rows[j] = word(&table[j + 1]);
-        j += 1;
-    }
-    rows
+    array::from_fn(|j| word(&table[j + 1]))
 }
 
 // The telephone.
@@ -251,8 +317,7 @@ fn row_words(table: &[[bool; 65]; 65]) -> [u64; 64]
 pub extern "C" fn yard_ask(sheet: &[u8]) -> YardTold
     ensures { result ≡ flat_told (asked sheet.now) }
 {
-    let r = telephone::ask(sheet);
-    told(r)
+    telephone::ask(sheet).into()
 }
 
 // The slots of other arrangements.
@@ -260,8 +325,7 @@ pub extern "C" fn yard_ask(sheet: &[u8]) -> YardTold
 pub extern "C" fn yard_ask_spread(sheet: &[u8]) -> YardSpread
     ensures { result ≡ flat_spread (spread_of sheet.now) }
 {
-    let r = arrangement::spread_of(sheet);
-    spread(r)
+    arrangement::spread_of(sheet).into()
 }
 
 // The sheet of the worst arrangement.
@@ -288,8 +352,7 @@ pub extern "C" fn yard_by_probe(sheet: &[u8], buf: &mut [u8]) -> YardPlanned
     ensures answer { result ≡ flat_planned (plan_made by_probe sheet.now (length buf.old)).answer }
     ensures buffer { buf.new ≡ front buf.old (plan_made by_probe sheet.now (length buf.old)).written }
 {
-    let r = plan::by_probe(sheet, buf);
-    planned(r)
+    plan::by_probe(sheet, buf).into()
 }
 
 // The plan by level.
@@ -298,8 +361,7 @@ pub extern "C" fn yard_by_level(sheet: &[u8], buf: &mut [u8]) -> YardPlanned
     ensures answer { result ≡ flat_planned (plan_made by_level sheet.now (length buf.old)).answer }
     ensures buffer { buf.new ≡ front buf.old (plan_made by_level sheet.now (length buf.old)).written }
 {
-    let r = plan::by_level(sheet, buf);
-    planned(r)
+    plan::by_level(sheet, buf).into()
 }
 
 // The judge, with whom it names.
@@ -307,8 +369,7 @@ pub extern "C" fn yard_by_level(sheet: &[u8], buf: &mut [u8]) -> YardPlanned
 pub extern "C" fn yard_judge(sheet: &[u8], plan: &[u8]) -> YardVerdict
     ensures { result ≡ flat_verdict (judgement sheet.now plan.now) }
 {
-    let r = judge::judgement(sheet, plan);
-    verdict(r)
+    judge::judgement(sheet, plan).into()
 }
 
 // The chooser: which plan, since no reference is handed back across C. It names nobody.
@@ -330,8 +391,7 @@ pub extern "C" fn yard_merged(sheet: &[u8], buf: &mut [u8]) -> YardPlanned
     ensures answer { result ≡ flat_planned (merged_made sheet.now (length buf.old)).answer }
     ensures buffer { buf.new ≡ front buf.old (merged_made sheet.now (length buf.old)).written }
 {
-    let r = plan::merged(sheet, buf);
-    planned(r)
+    plan::merged(sheet, buf).into()
 }
 
 // The judge of merged readings, with whom it names.
@@ -339,8 +399,7 @@ pub extern "C" fn yard_merged(sheet: &[u8], buf: &mut [u8]) -> YardPlanned
 pub extern "C" fn yard_merged_judge(sheet: &[u8], plan: &[u8]) -> YardVerdict
     ensures { result ≡ flat_verdict (judgement_in Merged sheet.now plan.now) }
 {
-    let r = judge::merged_judgement(sheet, plan);
-    verdict(r)
+    judge::merged_judgement(sheet, plan).into()
 }
 
 // The telephone of merged readings.
@@ -348,8 +407,7 @@ pub extern "C" fn yard_merged_judge(sheet: &[u8], plan: &[u8]) -> YardVerdict
 pub extern "C" fn yard_merged_ask(sheet: &[u8]) -> YardMergedTold
     ensures { result ≡ flat_merged_told (merged_asked sheet.now) }
 {
-    let r = merged::ask(sheet);
-    merged_told(r)
+    merged::ask(sheet).into()
 }
 
 // The wake book of a plan.
@@ -358,8 +416,7 @@ pub extern "C" fn yard_book(sheet: &[u8], plan: &[u8], book: &mut [u8]) -> YardB
     ensures answer { result ≡ flat_booked (book_made sheet.now plan.now (length book.old)).answer }
     ensures buffer { book.new ≡ front book.old (book_made sheet.now plan.now (length book.old)).written }
 {
-    let r = book::wake_book(sheet, plan, book);
-    booked(r)
+    book::wake_book(sheet, plan, book).into()
 }
 
 // The lister's text.
@@ -377,8 +434,7 @@ pub extern "C" fn yard_graph_write(sheet: &[u8], text: &mut [u8]) -> YardDrawn
     ensures answer { result ≡ flat_drawn (graph_made sheet.now (length text.old)).answer }
     ensures buffer { text.new ≡ front text.old (graph_made sheet.now (length text.old)).written }
 {
-    let r = draw::graph_made(sheet, text);
-    drawn(r)
+    draw::graph_made(sheet, text).into()
 }
 
 // A graph's text read into words, one a row.
@@ -388,7 +444,7 @@ pub extern "C" fn yard_graph_read(text: &[u8], rows: &mut [u64; 64]) -> YardGrap
     ensures rows { rows.new ≡ row_words (graph_read text.now).table }
 {
     let mut table = [[false; 65]; 65];
-    let r = parse::graph_read(text, &mut table);
+    let read = parse::graph_read(text, &mut table);
     *rows = row_words(&table);
-    graph(r)
+    read.into()
 }

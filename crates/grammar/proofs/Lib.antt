@@ -1,3 +1,2 @@
 -- Laws that belong to no one function.
-pub mod Scans
-pub mod LineWords
+pub mod Words

@@ -1,123 +1,56 @@
 // What a line of a graph's text is, by its words: spaces cut a line into words, as newlines cut a text into lines.
 #![tactic(auto)]
 
-ghost use Rattle.std.specs.Prelude.{◌≡◌, ◌+◌, length, drop};
+ghost use Rattle.std.specs.Prelude.{◌≡◌, length};
 ghost use Rattle.meaning.specs.Words.{least};
 ghost use Rattle.graph.specs.Part.{space, marks, part};
 ghost use Rattle.graph.specs.Lines.{same, is_number, number_at, is_comment, is_problem, is_edge, line_of};
 
 use graph::Line;
 
-const SPACE: u8 = 32;
-
 // How many bytes stand before the first mark, or before the end.
 pub fn part_length(mark: u8, bytes: &[u8]) -> usize
     ensures { result ≡ length (part mark 0 bytes.now) }
 {
-    let mut i = 0;
-    while i < bytes.len() {
-        if bytes[i] == mark {
-            return i;
-        }
-        i += 1;
-    }
-    i
+    bytes
+        .iter()
+        .position(|byte| *byte == mark)
+        .unwrap_or(bytes.len())
 }
 
 // How often a space stands in a line.
 fn spaces(line: &[u8]) -> usize
     ensures { result ≡ marks space line.now }
 {
-    let mut n: usize = 0;
-    let mut i = 0;
-    while i < line.len() {
-        if line[i] == SPACE {
-            n += 1;
-        }
-        i += 1;
-    }
-    n
-}
-
-// The first word of a line.
-fn first_word(line: &[u8]) -> &[u8]
-    ensures { result.now ≡ part space 0 line.now }
-{
-    let n = part_length(SPACE, line);
-    &line[..n]
-}
-
-// What stands behind the first space, and nothing where there is none.
-fn rest(line: &[u8]) -> &[u8]
-    ensures { result.now ≡ drop (length (part space 0 line.now) + 1) line.now }
-{
-    let n = part_length(SPACE, line);
-    if n < line.len() {
-        let at = n + 1;
-        &line[at..]
-    } else {
-        &line[n..]
-    }
+    line.iter().filter(|byte| **byte == b' ').count()
 }
 
 // The word behind k spaces.
 fn word(line: &[u8], k: usize) -> &[u8]
     ensures { result.now ≡ part space k line.now }
 {
-    if k == 0 {
-        first_word(line)
-    } else {
-        word(rest(line), k - 1)
-    }
+    line.split(|byte| *byte == b' ').nth(k).unwrap_or(&[])
 }
 
-fn same(xs: &[u8], ys: &[u8]) -> bool
-    ensures { result ≡ same xs.now ys.now }
-{
-    if xs.len() != ys.len() {
-        return false;
-    }
-    let mut i = 0;
-    while i < xs.len() {
-        if xs[i] != ys[i] {
-            return false;
-        }
-        i += 1;
-    }
-    true
-}
-
+#[tactic(auto, unfolding(graph::specs::Lines::is_number))]
 fn is_number(word: &[u8]) -> bool
     ensures { result ≡ is_number word.now }
 {
-    if word.len() == 0 {
-        return false;
-    }
-    if digits::others_stand(word) {
-        return false;
-    }
-    (word.len() == 1) | (word[0] != 48)
+    !word.is_empty() && !digits::others_stand(word) && (word.len() == 1 || word[0] != b'0')
 }
 
 // Whether word k of a line is just these bytes.
 fn says(line: &[u8], k: usize, bytes: &[u8]) -> bool
     ensures { result ≡ same (part space k line.now) bytes.now }
 {
-    same(word(line, k), bytes)
+    word(line, k) == bytes
 }
 
-// Which of so many words of a line is just these bytes; as many where none is.
+// Which of so many words of a line is just these bytes; as many where none is, not None: what a public function answers may not change.
 pub fn place_of(line: &[u8], many: usize, bytes: &[u8]) -> usize
     ensures { result ≡ least many (λ k. same (part space k line.now) bytes.now) }
 {
-    let mut k = 0;
-    while k < many {
-        if says(line, k, bytes) {
-            return k;
-        }
-        k += 1;
-    }
-    k
+    (0..many).find(|k| says(line, *k, bytes)).unwrap_or(many)
 }
 
 // Whether word k of a line is a number.
@@ -137,42 +70,39 @@ fn number_at(line: &[u8], k: usize) -> u16
 fn is_comment(line: &[u8]) -> bool
     ensures { result ≡ is_comment line.now }
 {
-    if line.len() == 0 {
-        return false;
-    }
-    line[0] == 99
+    line.starts_with(b"c")
 }
 
+#[tactic(auto, unfolding(graph::specs::Lines::is_problem, meaning::specs::Lister::text))]
 fn is_problem(line: &[u8]) -> bool
     ensures { result ≡ is_problem line.now }
 {
-    if spaces(line) != 3 {
-        return false;
-    }
-    says(line, 0, b"p") & (says(line, 1, b"edge") & (has_number(line, 2) & has_number(line, 3)))
+    spaces(line) == 3
+        && says(line, 0, b"p")
+        && says(line, 1, b"edge")
+        && has_number(line, 2)
+        && has_number(line, 3)
 }
 
+#[tactic(auto, unfolding(graph::specs::Lines::is_edge, meaning::specs::Lister::text))]
 fn is_edge(line: &[u8]) -> bool
     ensures { result ≡ is_edge line.now }
 {
-    if spaces(line) != 2 {
-        return false;
-    }
-    says(line, 0, b"e") & (has_number(line, 1) & has_number(line, 2))
+    spaces(line) == 2 && says(line, 0, b"e") && has_number(line, 1) && has_number(line, 2)
 }
 
 // What a line is.
+#[tactic(auto, unfolding(graph::specs::Lines::line_of))]
 pub fn line_of(line: &[u8]) -> Line
     ensures { result ≡ line_of line.now }
 {
     if is_comment(line) {
-        return Line::Comment;
+        Line::Comment
+    } else if is_problem(line) {
+        Line::Problem(number_at(line, 2), number_at(line, 3))
+    } else if is_edge(line) {
+        Line::Edge(number_at(line, 1), number_at(line, 2))
+    } else {
+        Line::Other
     }
-    if is_problem(line) {
-        return Line::Problem(number_at(line, 2), number_at(line, 3));
-    }
-    if is_edge(line) {
-        return Line::Edge(number_at(line, 1), number_at(line, 2));
-    }
-    Line::Other
 }

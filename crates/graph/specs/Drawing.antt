@@ -1,11 +1,13 @@
 -- RULES, "A graph as text": a sheet's conflict table as text.
-use Rattle.std.specs.Prelude.{cond, ◌&&◌, [], ◌++◌, ℕ, zero, suc, ◌-◌, ltb, length}
+use Rattle.std.specs.Prelude.{Result, Ok, Err, cond, ◌&&◌, [], ◌++◌, ℕ, zero, suc, ◌-◌, ltb, length}
 use Rattle.meaning.specs.Words.{Bytes, places}
 use Rattle.meaning.specs.Sheet.{probe_count}
 use Rattle.meaning.specs.Conflict.{entry, conflict_table}
-use Rattle.meaning.specs.Answer.{is_accepted, given, ◌then◌, sheet_test}
+use Rattle.meaning.specs.declared.Refusal.{Refusal}
+use Rattle.meaning.specs.declared.Outcome.{Outcome}
+use Rattle.meaning.specs.Results.{outcome_of}
+use Rattle.meaning.specs.Answer.{accepted, is_accepted, given, ◌then◌, sheet_test}
 use Rattle.meaning.specs.Lister.{text, said}
-use Rattle.graph.specs.declared.Drawn.{Drawn}
 use Rattle.graph.specs.Table.{Table, edges}
 
 -- the texts f 0, f 1, .. f (n - 1), one behind the other
@@ -35,6 +37,16 @@ table_text vertices table = problem_line vertices (edges table) ++ texts places 
 -- "A graph as text": a sheet's text
 abbrev pub graph_text : (s : Bytes) → Bytes
 graph_text s = table_text (probe_count s) (conflict_table s)
+
+-- "A graph as text": what the writer answers, number and place first; the bytes are 0 on refusal
+pub record Drawn : Type 0 where
+  pub outcome : Outcome
+  pub bytes : ℕ
+
+-- what the code answers, in these words
+abbrev pub drawn_answer : Result ℕ Refusal → Drawn
+drawn_answer (Ok bytes) = record { outcome = accepted; bytes = bytes }
+drawn_answer (Err refusal) = record { outcome = outcome_of refusal; bytes = 0 }
 
 -- what the writer makes: its answer, and the bytes that it writes at the start of the buffer
 pub record GraphMade : Type 0 where

@@ -2,4 +2,5 @@ pub mod Part
 pub mod Lines
 pub mod Table
 pub mod Reading
+pub mod Misreading
 pub mod Drawing

@@ -1,10 +1,10 @@
 // A graph as text: what is read of it and answered. Its meaning, after docs/RULES.md, stands in specs/.
 #![tactic(auto)]
 
-ghost use Rattle.std.specs.Prelude.{◌≡◌, cond, ◌≤◌};
+ghost use Rattle.std.specs.Prelude.{◌≡◌, ◌≤◌};
 ghost use Rattle.graph.specs.Table.{edges_of, edges};
 
-use meaning::Outcome;
+use meaning::Fault;
 
 // Room for any graph's text.
 pub const ANY_GRAPH: usize = 15081;
@@ -18,37 +18,26 @@ pub enum Line {
     Other,
 }
 
-// What was read of a text so far, beside its table: a fault and its line, the lines, and what the `p` line says.
+// What a `p` line says: the vertices, and how many edges there are.
 #[derive(Clone, Copy)]
-pub struct Reading {
-    pub number: u8,
-    pub place: u64,
-    pub lines: u64,
-    pub begun: bool,
+pub struct Problem {
     pub vertices: u8,
     pub stated: u16,
 }
 
-// What the reader of a graph answers, beside its table; the vertices are 0 on refusal.
+// What is known of a text whose lines have no fault so far, beside its table: how many they are, and what the `p` line says.
 #[derive(Clone, Copy)]
-pub struct Graph {
-    pub number: u8,
+pub struct Known {
+    pub lines: u64,
+    pub problem: Option<Problem>,
+}
+
+// What is wrong with a text, in which line, 0 where it is wrong at its end, and what the `p` line said before it.
+#[derive(Clone, Copy)]
+pub struct Misread {
+    pub fault: Fault,
     pub place: u64,
-    pub vertices: u8,
-}
-
-// What the writer of a graph answers; the bytes are 0 on refusal.
-#[derive(Clone, Copy)]
-pub struct Drawn {
-    pub outcome: Outcome,
-    pub bytes: usize,
-}
-
-fn one_if(is: bool) -> u16
-    ensures count { result ≡ cond is 1 0 }
-    ensures few { result ≤ 1 }
-{
-    if is { 1 } else { 0 }
+    pub problem: Option<Problem>,
 }
 
 // How many edges a row of a table has behind its own place.
@@ -56,11 +45,9 @@ fn edges_of(row: &[bool; 65], x: usize) -> u16
     ensures count { result ≡ edges_of row.now x }
     ensures few { result ≤ 65 }
 {
-    let mut n: u16 = 0;
-    let mut y = 0;
-    while y < 65 {
-        n += one_if((x < y) & row[y]);
-        y += 1;
+    let mut n = 0;
+    for (y, joined) in row.iter().enumerate() {
+        n += u16::from((x < y) & *joined);
     }
     n
 }
@@ -69,11 +56,9 @@ fn edges_of(row: &[bool; 65], x: usize) -> u16
 pub fn edges(table: &[[bool; 65]; 65]) -> u16
     ensures { result ≡ edges table.now }
 {
-    let mut n: u16 = 0;
-    let mut x = 0;
-    while x < 65 {
-        n += edges_of(&table[x], x);
-        x += 1;
+    let mut n = 0;
+    for (x, row) in table.iter().enumerate() {
+        n += edges_of(row, x);
     }
     n
 }

@@ -10,7 +10,7 @@ use lib.Dec.{ltb}
 use lib.ListN.{length}
 use Rattle.meaning.specs.declared.Mode.{Mode}
 use Rattle.meaning.specs.declared.Outcome.{Outcome}
-use Rattle.meaning.specs.declared.Tested.{Tested}
+use Rattle.meaning.specs.Returned.{Tested}
 use Rattle.meaning.specs.Words.{places}
 use Rattle.meaning.specs.Rounds.{moved, may_in, goes_in}
 use Rattle.meaning.specs.Answer.{is_accepted, given, ◌then◌}

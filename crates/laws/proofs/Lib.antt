@@ -1,5 +1,6 @@
 -- Laws of the definitions: each file is one subject.
 pub mod Turns
+pub mod Made
 pub mod Few
 pub mod Lists
 pub mod InTurn
@@ -10,6 +11,7 @@ pub mod Slots
 pub mod Colouring
 pub mod Conflicting
 pub mod Accepted
+pub mod Refused
 pub mod Grounds
 pub mod Children
 pub mod Modes

@@ -6,3 +6,4 @@ pub mod SendersText
 pub mod Fitting
 pub mod OwnLine
 pub mod PartsLong
+pub mod Saying

@@ -139,19 +139,3 @@ unfolding slot_line
 slot-length number senders =
     length-append (decimal 5 number ++ text ":" ++ senders_text senders) (text "\n")
     ∙ (omega (arith, length-append (decimal 5 number ++ text ":") (senders_text senders), length-append (decimal 5 number) (text ":"), colon, newline))
-
--- whether the buffer has room, by the digits that were counted
-module _ (number place d e long : ℕ) (count-number : d ≡ length (decimal 5 number)) (count-place : e ≡ length (decimal 5 place)) where
-  pub refusal-short : long < 10 + d + e → long < length (said "refused" number ++ said "" place ++ text "\n")
-  refusal-short h = omega (arith, refusal-length number place)
-
-  pub refusal-room : 10 + d + e ≤ long → length (said "refused" number ++ said "" place ++ text "\n") ≤ long
-  refusal-room h = omega (arith, refusal-length number place)
-
-module _ (a b c d e k l m n o long : ℕ) (count-a : k ≡ length (decimal 5 a)) (count-b : l ≡ length (decimal 5 b))
-    (count-c : m ≡ length (decimal 5 c)) (count-d : n ≡ length (decimal 5 d)) (count-e : o ≡ length (decimal 5 e)) where
-  pub numbers-short : long < 42 + (k + l) + (m + n) + o → long < length (numbers_line a b c d e)
-  numbers-short h = omega (arith, numbers-length a b c d e)
-
-  pub numbers-room : 42 + (k + l) + (m + n) + o ≤ long → length (numbers_line a b c d e) ≤ long
-  numbers-room h = omega (arith, numbers-length a b c d e)

@@ -1,15 +1,19 @@
 -- An answer that stands in a line of one's own is copied from there as a whole, or not at all.
 use mathlib.Core.Path.{◌≡◌, sym, ap, ◌∙◌, subst}
-use mathlib.Core.List.{List}
+use mathlib.Core.List.{List, []}
 use Prim.Native.Nat.{ℕ, ◌+◌, ◌≤◌}
 use native.Mathlib.Nat.{zero-add}
 use native.Mathlib.Decide.{dec_le}
 use native.Mathlib.Omega.{arith}
 use lib.ListN.{length, take, drop, replicate, length-replicate}
 use lib.Seq.{sets-eq, take_at, length-take-le}
-use Rattle.lines.specs.Line.{fitting, Put}
+use Rattle.std.specs.Fn.{Once, FnOnceReturnsAtMut}
+use Rattle.std.specs.Borrow.{MutBor}
+use Rattle.lines.specs.Text.{Says}
+use Rattle.lines.specs.Line.{Written, fitting, Put}
 use Rattle.lines.specs.Fits.{Fits}
 use Rattle.lines.proofs.Putting.{put-long, put-short, put-fitted}
+use Rattle.lines.proofs.Saying.{said-all}
 use Rattle.lines.proofs.Lined.{Answered, answered-short, answered-put}
 
 -- a text that is copied, or that does not fit
@@ -24,6 +28,16 @@ copied {out} {after} {r} text p = go (dec_le (length text) (length out))
         let zero : 0 ≡ r = none.ends ∙ sym p.ends in
         let answer = answered-short out text (omega (arith, short)) in
         subst (Answered out text after) zero (subst (λ (l : List ℕ). Answered out text l 0) same answer)
+
+-- what a step says is known, and has room: it is written
+pub said-whole : {F : Type 0} {g : Once F (MutBor (List ℕ) × Unit {0}) (Unit {0} × (MutBor (List ℕ) × Unit {0}))} {f : F} {out after bytes : List ℕ} {r : ℕ}
+    → length bytes ≤ 256
+    → ((p q : MutBor (List ℕ)) → g.post f (p, tt) (tt, (q, tt)) → Says 256 p.now bytes q.now)
+    → (text : List ℕ) × FnOnceReturnsAtMut g f [] tt text × Written out text after r
+    → Written out bytes after r
+said-whole {out} {after} {bytes} {r} short says (text, called, written) =
+    let whole = sym called.leaves ∙ said-all short called.shows (says called.shown called.left called.met) in
+    subst (λ (b : List ℕ). Written out b after r) whole written
 
 module _ {line text : List ℕ} {n size : ℕ} (short : length text ≤ size) (made : Fits (replicate size 0) 0 text line n) where
   -- the line as it is made

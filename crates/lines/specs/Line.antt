@@ -1,5 +1,5 @@
 -- RULES, "The lister": one line into a lent buffer.
-use Rattle.std.specs.Prelude.{◌≡◌, cond, [], ℕ, ◌+◌, leb, length}
+use Rattle.std.specs.Prelude.{◌≡◌, cond, [], ℕ, ◌+◌, ◌≤◌, leb, length, take}
 use Rattle.std.proofs.lemmas.List.Edits.{sets}
 use Rattle.meaning.specs.Words.{Bytes}
 use Rattle.meaning.specs.Plan.{front}
@@ -11,6 +11,12 @@ line_length buffer bytes = cond (leb (length bytes) (length buffer)) (length byt
 -- the buffer afterwards: the line at its start and the rest as before, or untouched where it is too short
 abbrev pub line_in : (buffer bytes : Bytes) → Bytes
 line_in buffer bytes = cond (leb (length bytes) (length buffer)) (front buffer bytes) buffer
+
+-- what a function that writes an answer says of it: that it is a part of the buffer, how long it is, and the buffer afterwards
+pub record Written (before bytes after : Bytes) (n : ℕ) : Type 0 where
+  pub part : (n ≤ length after) × (n ≡ length (take n after))
+  pub answer : n ≡ line_length before bytes
+  pub buffer : after ≡ line_in before bytes
 
 -- bytes that fit at a place of a buffer: all of them, or none where they do not
 unfoldable pub fitting : (buffer : Bytes) → (at : ℕ) → (bytes : Bytes) → Bytes

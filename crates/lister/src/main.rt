@@ -1,31 +1,34 @@
 // The plan lister: a sheet on standard input, its plan by probe or its refusal on standard output.
 #![tactic(auto)]
 
-use files::{ANSWERED, FAILED, REFUSED, Source, Stream};
+use files::{Answer, Failed, Source, Status, Stream};
 use std::process::ExitCode;
 
 // Prints the text for a sheet; a refusal begins with its word.
-fn print(rt: &HostRuntime, sheet: &[u8]) -> u8 {
-    let mut text = files::text_room();
+fn print(rt: &HostRuntime, sheet: &[u8]) -> Status {
+    let mut text = files::room::<{ meaning::ANY_TEXT }>();
     let m = listing::list(sheet, &mut text);
-    if let Err(error) = files::put(rt, Stream::Output, &text[..m]) {
-        files::fail(rt, b"standard output", &error);
-        return FAILED;
+    files::put(rt, Stream::Output, &text[..m]).map_err(|error| files::fail(
+        rt,
+        b"standard output",
+        &error,
+    ))?;
+    if text[0] == b'r' {
+        return Ok(Answer::Refused);
     }
-    if text[0] == b'r' { REFUSED } else { ANSWERED }
+    Ok(Answer::Answered)
 }
 
-fn run(rt: &HostRuntime) -> u8 {
+fn run(rt: &HostRuntime) -> Status {
     if files::arg_count(rt) != 1 {
-        return files::say(rt, Stream::Errors, b"usage: lister < SHEET\n", FAILED);
+        return files::say(rt, Stream::Errors, b"usage: lister < SHEET\n", Err(Failed));
     }
     let mut sheet = [0u8; meaning::DECIDING_SHEET];
     let got = files::read_full(&mut Source::Input(rt.stdin()), &mut sheet);
-    if let Some(error) = &got.failed {
-        files::fail(rt, b"standard input", error);
-        return FAILED;
-    }
-    print(rt, &sheet[..got.bytes])
+    let n = got
+        .whole()
+        .map_err(|error| files::fail(rt, b"standard input", &error))?;
+    print(rt, &sheet[..n])
 }
 
 fn main(rt: HostRuntime) -> ExitCode {

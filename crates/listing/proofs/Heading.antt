@@ -1,5 +1,8 @@
 -- Line one: what the code counts in the tree that it read is what the sheet says.
-use mathlib.Core.Path.{◌≡◌, ap, ap₂, ◌∙◌}
+use mathlib.Core.Path.{◌≡◌, ap, ap₂, ◌∙◌, subst}
+use Rattle.std.specs.Prelude.{Result, Ok}
+use Rattle.meaning.specs.declared.Refusal.{Refusal}
+use Rattle.meaning.specs.Results.{Answers}
 use mathlib.Core.Bool.{true}
 use mathlib.Core.List.{List}
 use Prim.Native.Nat.{ℕ}
@@ -13,6 +16,10 @@ use Rattle.lines.specs.Line.{line_length, line_in}
 use Rattle.sheet.specs.declared.Tree.{Tree}
 use Rattle.sheet.specs.Tree.{tree_of}
 use Rattle.sheet.proofs.Standing.{Standing, standing, all-packets-read, heaviest-read, least-slots-read}
+
+-- what is read of a sheet that is accepted
+pub the-tree : (s : List ℕ) (read : Result Tree Refusal) (tree : Tree) → read ≡ Ok tree → Answers (sheet_test s) (tree_of s) read → tree ≡ tree_of s
+the-tree s read tree is answers = (subst (λ (r : Result Tree Refusal). Answers (sheet_test s) (tree_of s) r) is answers).1
 
 module _ (s : List ℕ) (ok : is_accepted (sheet_test s) ≡ true) (tree : Tree) (read : tree ≡ tree_of s) where
   its : Standing s tree

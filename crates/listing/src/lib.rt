@@ -9,7 +9,7 @@ ghost use Rattle.meaning.specs.Lister.{slot_lines, numbers_line};
 ghost use Rattle.lines.specs.Line.{line_length, line_in};
 ghost use Rattle.listing.specs.Listed.{listed_length, listed_in};
 
-use meaning::Slot;
+use meaning::{Outcome, Slot};
 
 // The lines of so many slots of a plan; says where they end.
 fn slot_lines(plan: &[u8], slots: u16, out: &mut [u8]) -> usize
@@ -19,12 +19,10 @@ fn slot_lines(plan: &[u8], slots: u16, out: &mut [u8]) -> usize
 {
     let mut place: usize = 2;
     let mut at: usize = 0;
-    let mut k: u16 = 0;
-    while k < slots {
+    for k in 0..slots {
         let senders = slot::senders_at(plan, place);
         at += lines::slot_line(Slot(k + 1), senders, &mut out[at..]);
         place += 1 + laws::number_at(plan, place) as usize;
-        k += 1;
     }
     at
 }
@@ -37,13 +35,10 @@ fn first(sheet: &[u8], colours: u8, slots: u16, out: &mut [u8]) -> usize
     ensures buffer { out.new
         ≡ line_in out.old (numbers_line colours slots (all_packets sheet.now) (heaviest sheet.now) (least_slots sheet.now)) }
 {
-    let tree = sheet::read(sheet);
-    let p = tree.probes;
-    let parents = tree.parents;
-    let packets = tree.packets;
-    let all = branch::all_packets(p, &packets);
-    let most = branch::heaviest(p, parents, packets);
-    let least = branch::least_slots(p, parents, packets);
+    let tree = sheet::read(sheet).unwrap();
+    let all = branch::all_packets(&tree);
+    let most = branch::heaviest(&tree);
+    let least = branch::least_slots(&tree);
     lines::numbers_line(colours, slots, all, most, least, out)
 }
 
@@ -57,12 +52,11 @@ pub fn list(sheet: &[u8], out: &mut [u8]) -> usize
         return 0;
     }
     let mut buf = [0u8; meaning::ANY_PLAN];
-    let planned = plan::by_probe(sheet, &mut buf);
-    let outcome = planned.outcome;
-    if outcome.number != 0 {
-        return lines::refusal_line(outcome, out);
-    }
-    let slots = planned.slots;
-    let head = first(sheet, planned.colours, slots, out);
+    let plan = match plan::by_probe(sheet, &mut buf) {
+        Ok(plan) => plan,
+        Err(refusal) => return lines::refusal_line(Outcome::from(refusal), out),
+    };
+    let slots = plan.slots;
+    let head = first(sheet, plan.colours, slots, out);
     head + slot_lines(&buf, slots, &mut out[head..])
 }

@@ -5,7 +5,7 @@ use Prim.Native.Nat.{ℕ}
 use Prim.Native.String.{String}
 use lib.Dec.{T}
 use lib.ListN.{length, replicate}
-use Rattle.meaning.specs.declared.Booked.{Booked}
+use Rattle.meaning.specs.Returned.{Booked}
 use Rattle.meaning.specs.Words.{for_each, some, least, sum, most, tab, in_turn}
 use Rattle.meaning.specs.Yard.{reaches, climb, climbed}
 use Rattle.meaning.specs.Sheet.{parent_of, packets_of, level_of, interfere}

@@ -1,6 +1,6 @@
 -- RULES, "The wake book": in which slots each probe opens its radio.
 use Rattle.std.specs.Prelude.{Bool, cond, List, [], ◌∷◌, ◌++◌, ℕ, ◌+◌, ◌*◌, eqb, ltb, length, get_or}
-use Rattle.meaning.specs.declared.Booked.{Booked}
+use Rattle.meaning.specs.Returned.{Booked}
 use Rattle.meaning.specs.Words.{Bytes, Node, Slots, for_each, some, tab, in_turn}
 use Rattle.meaning.specs.Sheet.{two_at, probe_count, parent_of}
 use Rattle.meaning.specs.Plan.{two_bytes, slots_of_plan}

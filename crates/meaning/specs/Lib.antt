@@ -1,5 +1,6 @@
 -- The meaning of RULES, which is docs/RULES.md, in its order: a reader starts at the top and never needs a later file.
 pub mod Words
+pub mod Returned
 pub mod Yard
 pub mod Sheet
 pub mod Plan
@@ -14,3 +15,4 @@ pub mod Telephone
 pub mod Legal
 pub mod Blame
 pub mod Merged
+pub mod Results

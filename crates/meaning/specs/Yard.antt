@@ -1,7 +1,6 @@
 -- RULES, "Numbers of the yard": probes, levels, hops; and, for demand 3, the packets and the lag of a branch and the fewest slots of any plan.
-use Rattle.std.specs.Prelude.{Bool, cond, ◌&&◌, ◌||◌, ℕ, zero, suc, ◌+◌, ◌-◌, ◌*◌, max, eqb, leb}
-use Rattle.meaning.specs.declared.Walk.{Walk}
-use Rattle.meaning.specs.declared.Walk.TheVariants.{Arrives, Never}
+use Rattle.std.specs.Prelude.{Option, Some, None, Bool, cond, ◌&&◌, ◌||◌, ℕ, zero, suc, ◌+◌, ◌-◌, ◌*◌, max, eqb, leb}
+use Rattle.meaning.specs.declared.Level.{Level}
 use Rattle.meaning.specs.Words.{Node, sum_probes, most_probes}
 
 -- "Numbers of the yard": node 1 is the gateway, the probes are 2 to n, and n = p + 1
@@ -19,8 +18,8 @@ climb parent zero v = 0
 climb parent (suc left) v = cond (eqb v 1) 0 (suc (climb parent left (parent v)))
 
 -- "Numbers of the yard": where this walk ends: it arrives with its level, or has not arrived when no hops are left
-unfoldable pub climbed : (parent : Node → Node) → (left : ℕ) → Node → Walk
-climbed parent left v = cond (reaches parent 1 left v) (Arrives (record { 0 = climb parent left v })) Never
+unfoldable pub climbed : (parent : Node → Node) → (left : ℕ) → Node → Option Level
+climbed parent left v = cond (reaches parent 1 left v) (Some (record { 0 = climb parent left v })) None
 
 -- "Numbers of the yard": the level of a probe; a walk that arrives has at most p hops
 abbrev pub level_by : (p : ℕ) → (parent : Node → Node) → Node → ℕ

@@ -2,7 +2,9 @@
 #![tactic(auto)]
 
 ghost use Rattle.std.specs.Prelude.{◌≡◌};
-ghost use Rattle.meaning.specs.Answer.{refused_plan};
+ghost use Rattle.meaning.specs.Returned.{number_of};
+ghost use Rattle.meaning.specs.Judge.{nobody};
+ghost use Rattle.meaning.specs.Results.{outcome_of};
 
 // So many bytes of a sheet decide every answer.
 pub const DECIDING_SHEET: usize = 4162;
@@ -45,40 +47,73 @@ pub struct Colour(pub u8);
 #[derive(Clone, Copy)]
 pub struct Slot(pub u16);
 
-// A number of the table in RULES, "Numbers returned", and its place; both are 0 where nothing is wrong.
+// What is wrong where something is refused, by its number in the table of RULES, "Numbers returned".
+#[derive(Clone, Copy, PartialEq, Eq)]
+pub enum Fault {
+    SheetShort = 1,
+    CountTooLarge = 2,
+    SheetLong = 3,
+    ParentWrong = 4,
+    TooManyPackets = 5,
+    NeverArrives = 6,
+    PairWrong = 7,
+    PairNotAbove = 8,
+    PlanRoom = 9,
+    TooManySlots = 10,
+    PlanShort = 11,
+    NoProbe = 12,
+    NotAbove = 13,
+    NoPacket = 14,
+    Conflict = 15,
+    PlanLong = 16,
+    PacketsLeft = 17,
+    LineAstray = 18,
+    VertexWrong = 19,
+    EdgeCount = 20,
+    TextRoom = 21,
+    BookRoom = 22,
+}
+
+impl Fault {
+    // Its number in the table.
+    pub fn number(self) -> u8
+        ensures { result ≡ number_of self }
+    {
+        self as u8
+    }
+}
+
+// A refusal: what is wrong, and its place.
+#[derive(Clone, Copy)]
+pub struct Refusal {
+    pub fault: Fault,
+    pub place: u16,
+}
+
+// A number and its place, as they are said: those of a refusal, or any other; both are 0 where nothing is wrong. No Result: `wording::refused` and `lines::refusal_line` promise their line of any number.
 #[derive(Clone, Copy)]
 pub struct Outcome {
     pub number: u8,
     pub place: u16,
 }
 
-// The outcome where nothing is wrong.
-pub const ACCEPTED: Outcome = Outcome {
-    number: 0,
-    place: 0,
-};
+impl From<Refusal> for Outcome {
+    ghost from_gives = { λ refusal outcome. outcome ≡ outcome_of refusal };
 
-// What a planner answers; the last three are 0 on refusal.
+    fn from(refusal: Refusal) -> Outcome {
+        Outcome {
+            number: refusal.fault.number(),
+            place: refusal.place,
+        }
+    }
+}
+
+// What a plan of ours has.
 #[derive(Clone, Copy)]
-pub struct Planned {
-    pub outcome: Outcome,
+pub struct Plan {
     pub colours: u8,
     pub slots: u16,
     pub bytes: usize,
-}
-
-// Where a walk from parent to parent ends: at the gateway, after so many hops, or nowhere.
-#[derive(Clone, Copy)]
-pub enum Walk {
-    Arrives(Level),
-    Never,
-}
-
-// The verdict on a plan; the slots are 0 unless it is passed.
-#[derive(Clone, Copy)]
-pub struct Verdict {
-    pub outcome: Outcome,
-    pub slots: u16,
 }
 
 // Whom a refusal names: senders of the slot, by their bytes; 0 where it names nobody. A sender may be 0 itself: the number tells.
@@ -94,38 +129,28 @@ pub const NOBODY: Names = Names {
     second: 0,
 };
 
-// What the test of a slot, or of a plan's slots, answers.
+// A refusal of a plan, and whom it names.
 #[derive(Clone, Copy)]
-pub struct Tested {
-    pub outcome: Outcome,
+pub struct Blame {
+    pub refusal: Refusal,
     pub names: Names,
 }
 
-// The answer where nothing is wrong, so that nobody is named.
-pub const PASSED: Tested = Tested {
-    outcome: ACCEPTED,
-    names: NOBODY,
-};
+// A refusal that names nobody.
+impl From<Refusal> for Blame {
+    ghost from_gives = { λ refusal blame. blame ≡ record { refusal = refusal; names = nobody } };
 
-// What the judge answers: the verdict, and whom it names.
-#[derive(Clone, Copy)]
-pub struct Judgement {
-    pub verdict: Verdict,
-    pub names: Names,
+    fn from(refusal: Refusal) -> Blame {
+        Blame {
+            refusal,
+            names: NOBODY,
+        }
+    }
 }
 
-// What the maker of wake books answers: the judge's outcome and names, or 22; the bytes are 0 on refusal.
+// The slots of a reading at least, in our plan and at most, and how many times anybody's ours is.
 #[derive(Clone, Copy)]
-pub struct Booked {
-    pub outcome: Outcome,
-    pub names: Names,
-    pub bytes: usize,
-}
-
-// What the telephone answers; the last four are 0 on refusal.
-#[derive(Clone, Copy)]
-pub struct Told {
-    pub outcome: Outcome,
+pub struct Limits {
     pub least: u16,
     pub ours: u16,
     pub most: u16,
@@ -139,10 +164,9 @@ pub enum Mode {
     Merged,
 }
 
-// What the telephone answers of merged readings; the last three are 0 on refusal.
+// The slots of a merged reading at least, in our plan and at most.
 #[derive(Clone, Copy)]
-pub struct MergedTold {
-    pub outcome: Outcome,
+pub struct MergedLimits {
     pub least: u16,
     pub ours: u16,
     pub most: u16,
@@ -154,16 +178,4 @@ pub enum Choice {
     Neither,
     First,
     Second,
-}
-
-// A planner's answer where it refuses.
-pub fn refused_plan(outcome: Outcome) -> Planned
-    ensures { result ≡ refused_plan outcome }
-{
-    Planned {
-        outcome,
-        colours: 0,
-        slots: 0,
-        bytes: 0,
-    }
 }

@@ -1,5 +1,3 @@
 -- Laws that the functions' proofs cite.
-pub mod TablePlaces
-pub mod LineTaken
-pub mod Ends
+pub mod Faults
 pub mod Whole

@@ -6,11 +6,9 @@ use lib.ListN.{length, take, drop, length-drop, drop_of_length-le}
 use lib.Seq.{take_all, drop-drop, length-take-le}
 use Rattle.meaning.specs.Words.{Bytes, for_each}
 use Rattle.laws.proofs.Turns.{for_each-same}
-use Rattle.graph.specs.declared.Reading.{Reading}
-use Rattle.graph.specs.declared.Graph.{Graph}
 use Rattle.graph.specs.Part.{newline, marks, part}
 use Rattle.graph.specs.Table.{Table, no_edges}
-use Rattle.graph.specs.Reading.{SoFar, unread, line_read, lines_read, last_read, GraphRead, ended, graph_read}
+use Rattle.graph.specs.Reading.{Reading, SoFar, unread, line_read, lines_read, last_read, ended, graph_read}
 use Rattle.graph.proofs.Cut.{part-whole, marks-none, part-within, take_part, marks-behind, parts-behind}
 use Rattle.parse.specs.Piece.{behind_last, last_begins, lines_after}
 
@@ -128,16 +126,10 @@ module _ (text : Bytes) (start : Reading) (table : Table) (s : start ≡ unread)
   unfolding lines_after lines_read
   begun = ap₂ (λ (r : Reading) (u : Table). lines_after (record { state = r; table = u }) text) s t
 
-  pub text-ends : (read : Reading) (table' : Table) (at : ℕ) → Answered text lines table' read at
-      → (behind : Bytes) → behind ≡ drop at text → (last : Reading) → last ≡ last_read read behind
-      → (answer : Graph) (table'' : Table)
-      → answer ≡ (ended (record { state = last; table = table' })).answer → table'' ≡ (ended (record { state = last; table = table' })).table
-      → (answer ≡ (graph_read text).answer) × (table'' ≡ (graph_read text).table)
+  pub text-ends : (read : Reading) → read ≡ lines.state → (table' : Table) → table' ≡ lines.table → (behind : Bytes) → behind ≡ behind_last text
+      → (last : Reading) → last ≡ last_read read behind → ended (record { state = last; table = table' }) ≡ graph_read text
   unfolding graph_read
-  text-ends read table' at is behind behind_is last last_is answer table'' a u =
-      let end : ended (record { state = last; table = table' }) ≡ graph_read text =
-      ap₂ (λ (r : Reading) (v : Table). ended (record { state = r; table = v }))
-      (last_is ∙ ap₂ last_read (is.0 ∙ ap (λ (x : SoFar). x.state) begun) (behind_is ∙ is.1.1.0))
-      (is.1.1.1 ∙ ap (λ (x : SoFar). x.table) begun)
-      in
-      (a ∙ ap (λ (x : GraphRead). x.answer) end, u ∙ ap (λ (x : GraphRead). x.table) end)
+  text-ends read r table' u behind b last l =
+      ap₂ (λ (x : Reading) (v : Table). ended (record { state = x; table = v }))
+      (l ∙ ap₂ last_read (r ∙ ap (λ (x : SoFar). x.state) begun) b)
+      (u ∙ ap (λ (x : SoFar). x.table) begun)

@@ -21,9 +21,9 @@ use Rattle.plan.specs.TurnByTurn.{way_by, from, slots_by, Going, Filled}
 use Rattle.plan.proofs.ColourTurn.{ready-next, turn-sent}
 use Rattle.plan.proofs.TurnByTurn.{put-behind}
 
-module _ (by : code.Way) (table : List (List Bool)) where
+module _ (by : code.Way) where
   abbrev way : Way
-  way = way_by by table
+  way = way_by by
 
   abbrev energy : List ℕ → ℕ
   energy held = weigh (level_by by.probes way.goes) held
@@ -42,13 +42,13 @@ module _ (by : code.Way) (table : List (List Bool)) where
       record {
         ready =
             ready-own (held_after way.goes now.held made) _
-            (ready-next by.probes way.goes now.held (2 * energy now.held) spent.ready may has way.relation (by_node by.own) s);
+            (ready-next by.probes way.goes now.held (2 * energy now.held) spent.ready may has way.relation (by_node by.own.now) s);
         fewer =
             omega (
               arith,
               spent.fewer,
               length-append now.slots made,
-              turn-sent by.probes way.goes now.held (2 * energy now.held) spent.ready may has way.relation (by_node by.own) s,
+              turn-sent by.probes way.goes now.held (2 * energy now.held) spent.ready may has way.relation (by_node by.own.now) s,
             );
       }
     where
@@ -59,7 +59,7 @@ module _ (by : code.Way) (table : List (List Bool)) where
       may = way.may now.held
 
       has : (v : ℕ) → holds may v ≡ true → holds now.held v ≡ true
-      has = may-holds by.mode by.probes (by_node by.parents) now.held
+      has = may-holds by.mode by.probes (by_node by.parents.now) now.held
 
   spent-round : (all : ℕ) (now : Progress) → Spent all now → Spent all (round way now)
   unfolding round
@@ -68,7 +68,7 @@ module _ (by : code.Way) (table : List (List Bool)) where
       (λ s _ then h. spent-turn all (s + 1) then h)
 
   -- a plan has no more slots than sendings
-  pub slots-most : (held : List ℕ) (room sendings : ℕ) → Ready by.probes way.goes held room → length (slots_by by table sendings held) ≤ energy held
+  pub slots-most : (held : List ℕ) (room sendings : ℕ) → Ready by.probes way.goes held room → length (slots_by way sendings held) ≤ energy held
   unfolding rounds
   slots-most held room sendings ready =
       omega (

@@ -43,28 +43,28 @@ put-behind l part at h =
     let none : drop (length l - at) (drop at l) ≡ [] = drop_of_length-le (drop at l) {i = length l - at} (rw (length-drop at l) (omega arith)) in
     ap (λ (r : List ℕ). take at l ++ (part ++ r)) none ∙ ap (λ (r : List ℕ). take at l ++ r) (append-nil part)
 
-module _ (by : code.Way) (table : List (List Bool)) where
+module _ (by : code.Way) where
   abbrev way : Way
-  way = way_by by table
+  way = way_by by
 
   abbrev parent : ℕ → ℕ
   parent = goes_by by
 
   -- who may send holds something
   has : (held : List ℕ) (v : ℕ) → holds (way.may held) v ≡ true → holds held v ≡ true
-  has = may-holds by.mode by.probes (by_node by.parents)
+  has = may-holds by.mode by.probes (by_node by.parents.now)
 
   -- the first k turns of a round
   unfoldable pub turns : ℕ → List ℕ → Progress
   turns k held = for_each k (λ s now. recorded parent (turn way (s + 1) now.held) now) (from held)
 
-  pub turns-all : (held : List ℕ) → turns by.colours held ≡ round_by by table held
+  pub turns-all : (held : List ℕ) → turns by.colours held ≡ round_by by held
   unfolding turns round
   turns-all held = refl
 
   -- what the turn that follows them makes
   abbrev next_turn : ℕ → List ℕ → List (List ℕ)
-  next_turn k held = turn_by by.probes table by.own (k + 1) (way.may (turns k held).held)
+  next_turn k held = turn_by by.probes by.table.now by.own.now (k + 1) (way.may (turns k held).held)
 
   turns_next : (k : ℕ) (held : List ℕ) → turns (k + 1) held
       ≡ record { held = held_after parent (turns k held).held (next_turn k held); slots = (turns k held).slots ++ next_turn k held }
@@ -87,7 +87,7 @@ module _ (by : code.Way) (table : List (List Bool)) where
   -- one more turn, whose slot is written into the part from `at` on
   pub going_next : (k : ℕ) (held₀ held rest₀ rest : List ℕ) (at slots : ℕ) → Going by.probes parent (turns k held₀) held rest₀ rest at slots
       → (held' part : List ℕ) (bytes : ℕ)
-      → Turned parent (turn_by by.probes table by.own (k + 1) (way.may held)) held held' (take (length rest - at) (drop at rest)) part bytes
+      → Turned parent (turn_by by.probes by.table.now by.own.now (k + 1) (way.may held)) held held' (take (length rest - at) (drop at rest)) part bytes
       → (more : ℕ) → more ≡ cond (eqb bytes 0) 0 1
       → Going by.probes parent (turns (k + 1) held₀) held' rest₀ (put_mid at (length rest - at) rest part) (at + bytes) (slots + more)
   going_next k held₀ held rest₀ rest at slots now held' part bytes lent more count =
@@ -112,7 +112,7 @@ module _ (by : code.Way) (table : List (List Bool)) where
               arith,
               now.within,
               turned.counted,
-              turn-bytes by.probes parent held (length rest₀ - at) now.ready (way.may held) (has held) way.relation (by_node by.own) (k + 1),
+              turn-bytes by.probes parent held (length rest₀ - at) now.ready (way.may held) (has held) way.relation (by_node by.own.now) (k + 1),
             );
         fewer =
             omega (
@@ -120,11 +120,11 @@ module _ (by : code.Way) (table : List (List Bool)) where
               now.fewer,
               turned.counted,
               one_more,
-              turn-fewer by.probes parent held (length rest₀ - at) now.ready (way.may held) (has held) way.relation (by_node by.own) (k + 1),
+              turn-fewer by.probes parent held (length rest₀ - at) now.ready (way.may held) (has held) way.relation (by_node by.own.now) (k + 1),
             );
         ready =
             subst₂ (λ (h : List ℕ) (r : ℕ). Ready by.probes parent h r) (sym turned.moves) room
-            (ready-next by.probes parent held (length rest₀ - at) now.ready (way.may held) (has held) way.relation (by_node by.own) (k + 1));
+            (ready-next by.probes parent held (length rest₀ - at) now.ready (way.may held) (has held) way.relation (by_node by.own.now) (k + 1));
       })
     where
       before : List ℕ
@@ -134,7 +134,7 @@ module _ (by : code.Way) (table : List (List Bool)) where
       done = (turns k held₀).slots
 
       makes : List ℕ → List (List ℕ)
-      makes h = turn_by by.probes table by.own (k + 1) (way.may h)
+      makes h = turn_by by.probes by.table.now by.own.now (k + 1) (way.may h)
 
       turned : Turned parent (makes held) held held' (drop at rest) part bytes
       turned = subst (λ (from' : List ℕ). Turned parent (makes held) held held' from' part bytes) (part-from rest at) lent
@@ -142,7 +142,7 @@ module _ (by : code.Way) (table : List (List Bool)) where
       one_more : more ≡ length (makes held)
       one_more =
           count ∙ ap (λ (b : ℕ). cond (eqb b 0) 0 1) turned.counted
-          ∙ sym (turn-count by.probes parent held (length rest₀ - at) now.ready (way.may held) (has held) way.relation (by_node by.own) (k + 1))
+          ∙ sym (turn-count by.probes parent held (length rest₀ - at) now.ready (way.may held) (has held) way.relation (by_node by.own.now) (k + 1))
 
       room : (length rest₀ - at) - length (slot_bytes (makes held)) ≡ length rest₀ - (at + bytes)
       room = omega (arith, turned.counted)
@@ -200,9 +200,9 @@ going-behind p parent now then held rest₀ rest at slots first held' part bytes
     left = length-drop at rest ∙ ap (λ (n : ℕ). n - at) (going-long first)
 
 -- rounds, while anything is outside the gateway
-module _ (by : code.Way) (table : List (List Bool)) where
+module _ (by : code.Way) where
   abbrev road : Way
-  road = way_by by table
+  road = way_by by
 
   step : ℕ → Progress → Progress
   step _ now = cond (outside by.probes now.held) (round road now) now
@@ -210,7 +210,7 @@ module _ (by : code.Way) (table : List (List Bool)) where
   pub rounds-start : (held rest : List ℕ) → Ready by.probes road.goes held (length rest)
       → Going by.probes road.goes (rounds road 0 (from held)) held rest rest 0 0
   unfolding rounds for_each turns
-  rounds-start held rest ready = going_start by table held rest ready
+  rounds-start held rest ready = going_start by held rest ready
 
   -- with nothing outside, the rounds that are left change nothing
   pub rounds-stop : (r n : ℕ) (held : List ℕ) → r ≤ n → outside by.probes (rounds road r (from held)).held ≡ false

@@ -10,9 +10,9 @@ use lib.Dec.{eqb, ltb}
 use lib.ListN.{length, get_or, take}
 use borrow.Author.Tests.{le-ltb, lt-ltb}
 use Rattle.meaning.specs.declared.Mode.TheVariants.{Packets}
-use Rattle.meaning.specs.declared.Booked.{Booked}
+use Rattle.meaning.specs.Returned.{Booked}
 use Rattle.meaning.specs.declared.Outcome.{Outcome}
-use Rattle.meaning.specs.declared.Verdict.{Verdict}
+use Rattle.meaning.specs.Returned.{Verdict}
 use Rattle.meaning.specs.declared.Names.{Names}
 use Rattle.meaning.specs.Words.{Bytes}
 use Rattle.meaning.specs.Yard.{is_probe, branch_packets}

@@ -2,8 +2,7 @@
 use Rattle.std.specs.Prelude.{◌≡◌, length, take}
 use Rattle.meaning.specs.Words.{Bytes}
 use Rattle.meaning.specs.Plan.{front}
-use Rattle.graph.specs.declared.Drawn.{Drawn}
-use Rattle.graph.specs.Drawing.{graph_made}
+use Rattle.graph.specs.Drawing.{Drawn, graph_made}
 
 -- it answers this and leaves the buffer so
 abbrev pub Draws : (s buffer : Bytes) → Drawn → Bytes → Type 0

@@ -1,6 +1,6 @@
 -- The words of the page of promises for wake books: what `book::wake_book` answers and leaves behind, and how a probe reads its entry.
 use Rattle.std.specs.Prelude.{◌≡◌, List, ℕ, ◌+◌, ◌≤◌, ◌<◌, length, get_or}
-use Rattle.meaning.specs.declared.Booked.{Booked}
+use Rattle.meaning.specs.Returned.{Booked}
 use Rattle.meaning.specs.Words.{Bytes}
 use Rattle.meaning.specs.Plan.{front}
 use Rattle.meaning.specs.Book.{book_made, list_at, behind_list, entry_at}

@@ -1,15 +1,21 @@
 -- Who waits for a child, child by child: one more child that has not sent makes its parent wait, and nobody else.
 use mathlib.Core.Path.{◌≡◌, refl, sym, ap, ◌∙◌}
-use mathlib.Core.Bool.{Bool, true, false, ◌&&◌, ◌||◌}
+use mathlib.Core.Bool.{Bool, true, false, cond, ◌&&◌, ◌||◌}
 use mathlib.Core.List.{List}
 use Prim.Native.Nat.{ℕ, ◌+◌, ◌≤◌, ◌<◌}
 use native.Mathlib.Omega.{arith}
 use borrow.Author.Tests.{eq-eqb, ne_eqb}
+use mir.Val.{bool_byte}
 use lib.Dec.{eqb}
 use lib.ListN.{get_or, set}
 use Rattle.meaning.specs.Words.{tab, places}
 use Rattle.meaning.specs.Rounds.{holds, waits}
 use Rattle.laws.proofs.Turns.{some_one, get_or-tab, tab-same, set-tab}
+
+-- a test as a number
+pub one-if : (test : Bool) (n : ℕ) → n ≡ bool_byte test → n ≡ cond test 1 0
+one-if true n e = e
+one-if false n e = e
 
 or-false : (b : Bool) → (b || false) ≡ b
 or-false true = refl

@@ -1,7 +1,7 @@
 // What may be sent and where it goes, of packets and of merged readings: what is held at first, who is ready, and what a slot that is sent does to what is held.
 #![tactic(auto)]
 
-ghost use Rattle.std.specs.Prelude.{◌≡◌, cond};
+ghost use Rattle.std.specs.Prelude.{◌≡◌};
 ghost use Rattle.meaning.specs.Words.{by_node, tab, places};
 ghost use Rattle.meaning.specs.Rounds.{one_each, ready, goes_in, waits};
 ghost use Rattle.laws.specs.Few.{at_most63};
@@ -9,25 +9,14 @@ ghost use Rattle.slot.specs.Move.{moved_within};
 ghost use Rattle.sending.specs.First.{first_held};
 
 use meaning::Mode;
-
-fn one_if(is: bool) -> u16
-    ensures { result ≡ cond is 1 0 }
-{
-    if is { 1 } else { 0 }
-}
+use std::array;
 
 // One reading of each probe, by node.
 fn readings(p: u8) -> [u16; 65]
     ensures { result ≡ tab places (one_each (at_most63 p)) }
 {
     let last = laws::at_most_63(p) as usize + 1;
-    let mut held = [0u16; 65];
-    let mut i = 0;
-    while i < 65 {
-        held[i] = one_if((2 <= i) & (i <= last));
-        i += 1;
-    }
-    held
+    array::from_fn(|v| u16::from((2 <= v) & (v <= last)))
 }
 
 // What is held before the first slot, by node: the packets, or one reading of each probe, whatever its packets are.
@@ -44,17 +33,12 @@ pub fn first_held(mode: Mode, p: u8, packets: [u8; 65]) -> [u16; 65]
 fn waiting(p: u8, parents: &[u8; 65], held: &[u16; 65]) -> [bool; 65]
     ensures { result ≡ tab places (waits (at_most63 p) (by_node parents.now) held.now) }
 {
-    let probes = laws::at_most_63(p);
     let mut flags = [false; 65];
-    let mut k: u8 = 0;
-    while k < probes {
-        let child = (k + 2) as usize;
-        let parent = parents[child];
-        if parent < 65 {
-            let up = parent as usize;
-            flags[up] = flags[up] | (0 < held[child]);
+    for k in 0..laws::at_most_63(p) as usize {
+        let up = parents[k + 2] as usize;
+        if up < 65 {
+            flags[up] |= 0 < held[k + 2];
         }
-        k += 1;
     }
     flags
 }
@@ -64,13 +48,7 @@ pub fn ready(p: u8, parents: &[u8; 65], held: &[u16; 65]) -> [u16; 65]
     ensures { result ≡ ready (at_most63 p) (by_node parents.now) held.now }
 {
     let waits = waiting(p, parents, held);
-    let mut may = [0u16; 65];
-    let mut i = 0;
-    while i < 65 {
-        may[i] = one_if((0 < held[i]) & !waits[i]);
-        i += 1;
-    }
-    may
+    array::from_fn(|v| u16::from((0 < held[v]) & !waits[v]))
 }
 
 // What a slot that is sent does to what is held: each packet goes to the sender's parent, each reading counts as brought in.

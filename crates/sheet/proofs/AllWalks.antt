@@ -8,16 +8,17 @@ use native.Mathlib.Decide.{dec_lt}
 use native.Mathlib.Omega.{arith}
 use lib.ListN.{set, replicate}
 use Rattle.meaning.specs.declared.Level.{Level}
-use Rattle.meaning.specs.declared.Walk.{Walk}
-use Rattle.meaning.specs.declared.Walk.TheVariants.{Arrives, Never}
+use Rattle.std.specs.Prelude.{Option, Some, None}
+use Rattle.meaning.specs.declared.Refusal.{Refusal}
+use Rattle.meaning.specs.Results.{outcome_of}
 use Rattle.meaning.specs.Words.{tab, places}
 use Rattle.meaning.specs.Yard.{is_probe, climb, climbed}
-use Rattle.meaning.specs.Answer.{accepted, walk_gives, walk_test}
+use Rattle.meaning.specs.Answer.{accepted, in_order, walk_gives, walk_test}
 use Rattle.laws.proofs.Turns.{set-tab}
 use Rattle.laws.proofs.Walk.{probe-yes, probe-below, probe-past}
 use Rattle.walk.proofs.Climbing.{level_in, climbed-level}
-use Rattle.sheet.specs.Tree.{walks_of, strayed}
-use Rattle.sheet.proofs.Scan.{Scanned, scan-starts, scan-next, scan-stops, scan-ends}
+use Rattle.sheet.specs.Tree.{levels_by, strayed}
+use Rattle.sheet.proofs.Scan.{scan-starts, scan-next, scan-stops}
 
 -- one probe more makes no other node a probe
 one-more-probe : (k v : ℕ) → (v ≡ k + 2 → ⊥) → is_probe (k + 1) v ≡ is_probe k v
@@ -35,20 +36,20 @@ module _ (parent : ℕ → ℕ) (p : ℕ) where
 
   -- the first k probes arrive, and their levels are found
   pub record Walked (k : ℕ) (levels : List ℕ) : Type 0 where
-    pub arrive : Scanned (walk_test parent p) p k accepted
+    pub arrive : in_order k (walk_test parent p) ≡ accepted
     pub found : levels ≡ tab places (levels_to k)
 
   pub walks-start : Walked 0 (replicate places 0)
   unfolding tab
-  walks-start = record { arrive = scan-starts; found = refl }
+  walks-start = record { arrive = scan-starts _; found = refl }
 
   -- one walk more arrives
-  pub walks_next : (k : ℕ) (levels : List ℕ) → Walked k levels → k < p → p ≤ 63 → (walk : Walk) (level : Level) → walk ≡ climbed parent p (k + 2)
-      → walk ≡ Arrives level → Walked (k + 1) (set levels (k + 2) level.0)
+  pub walks_next : (k : ℕ) (levels : List ℕ) → Walked k levels → k < p → p ≤ 63 → (walk : Option Level) (level : Level) → walk ≡ climbed parent p (k + 2)
+      → walk ≡ Some level → Walked (k + 1) (set levels (k + 2) level.0)
   unfolding walk_test
   walks_next k levels before within few walk level climbs is =
       record {
-        arrive = scan-next before.arrive within accepted (ap (walk_gives (k + 2)) (sym is ∙ climbs)) refl;
+        arrive = scan-next _ _ before.arrive (ap (walk_gives (k + 2)) (sym is ∙ climbs));
         found =
             ap (λ (l : List ℕ). set l (k + 2) level.0) before.found
             ∙ set-tab places (levels_to k) (levels_to (k + 1)) (k + 2) level.0 0 (omega arith) here
@@ -62,15 +63,13 @@ module _ (parent : ℕ → ℕ) (p : ℕ) where
           ∙ ap (level_in p) (sym climbs ∙ is)
 
   -- one never arrives
-  pub walks-stray : (k : ℕ) (levels : List ℕ) → Walked k levels → k < p → (walk : Walk) → walk ≡ climbed parent p (k + 2) → walk ≡ Never
-      → strayed (k + 2) ≡ walks_of parent p
-  unfolding walk_test walks_of
-  walks-stray k levels before within walk climbs is =
-      rw (← scan-stops before.arrive within (record { number = 6; place = k + 2 }) (ap (walk_gives (k + 2)) (sym is ∙ climbs)) (λ no. absurd (omega arith)))
+  pub walks-stray : (k : ℕ) (levels : List ℕ) → Walked k levels → k < p → (walk : Option Level) → walk ≡ climbed parent p (k + 2) → walk ≡ None
+      → (refusal : Refusal) → outcome_of refusal ≡ strayed (k + 2) → outcome_of refusal ≡ in_order p (walk_test parent p)
+  unfolding walk_test
+  walks-stray k levels before within walk climbs is refusal stray =
+      scan-stops _ _ before.arrive _ within refusal (stray ∙ ap (walk_gives (k + 2)) (sym is ∙ climbs))
 
   -- all have arrived
-  pub walks-end : (k : ℕ) (levels : List ℕ) → Walked k levels → p ≤ k → record { outcome = accepted; levels = levels } ≡ walks_of parent p
-  unfolding walks_of
-  walks-end k levels all past =
-      let whole : k ≡ p = omega (arith, all.arrive.within) in
-      rw (← scan-ends all.arrive past, all.found ∙ ap (λ (j : ℕ). tab places (levels_to j)) whole)
+  pub walks-end : (k : ℕ) (levels : List ℕ) → Walked k levels → k ≡ p
+      → (accepted ≡ in_order p (walk_test parent p)) × (levels ≡ levels_by parent p)
+  walks-end k levels all whole = (sym (rw whole at all.arrive), rw whole at all.found)

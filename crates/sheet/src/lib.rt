@@ -1,19 +1,20 @@
-// Reads a yard sheet once: its first refusal, or the tree that it describes; and the conflict table of the sheet.
+// Reads a yard sheet once: its first refusal, or the tree that it describes, with the conflict table and the depth of that tree.
 #![tactic(auto)]
 
 ghost use Rattle.std.specs.Prelude.{◌≡◌, ◌<◌, ◌≤◌, ◌||◌, ◌&&◌, eqb, ltb, leb, drop};
-ghost use Rattle.meaning.specs.Words.{tab, places, by_node};
+ghost use Rattle.meaning.specs.Words.{tab, places, most_probes, by_node};
 ghost use Rattle.meaning.specs.Sheet.{probe_records, pair_count_at, pair_count, pair_records, interfere};
 ghost use Rattle.meaning.specs.Conflict.{conflict, table_of};
-ghost use Rattle.meaning.specs.Answer.{in_order, probe_test, pair_test, counts_test};
-ghost use Rattle.sheet.specs.Tree.{of_the_sheet, record_byte, strayed, walks_of, refused_tree, tree_of};
+ghost use Rattle.meaning.specs.Answer.{in_order, probe_test, walk_test, pair_test, counts_test, sheet_test};
+ghost use Rattle.meaning.specs.Returned.{number_of};
+ghost use Rattle.meaning.specs.Results.{outcome_of, test_answer, Answers};
+ghost use Rattle.sheet.specs.Tree.{of_the_sheet, record_byte, strayed, levels_by, tree_of};
 
-use meaning::{Node, Outcome, Probe, Walk};
+use meaning::{Fault, Level, Node, Probe, Refusal};
 
-// What a sheet is read as; parents, packets and levels stand by node, and all is 0 where it is refused.
+// What an accepted sheet is read as; parents, packets and levels stand by node.
 #[derive(Clone, Copy)]
 pub struct Tree {
-    pub outcome: Outcome,
     pub probes: u8,
     pub parents: [u8; 65],
     pub packets: [u8; 65],
@@ -21,11 +22,22 @@ pub struct Tree {
     pub hops: u32,
 }
 
-// What the probes' walks come to; the levels stand by node, and are 0 where a probe never arrives.
-#[derive(Clone, Copy)]
-struct Walks {
-    outcome: Outcome,
-    levels: [u8; 65],
+impl Tree {
+    // The conflict table of the sheet that was read; its pairs are handed on as they stand.
+    pub fn conflicts(&self, sheet: &[u8]) -> [[bool; 65]; 65]
+        ensures { result ≡ table_of (conflict self.now.probes (by_node self.now.parents)
+            (interfere (pair_records sheet.now) (pair_count sheet.now))) }
+    {
+        let pairs = pair_records(sheet);
+        conflict::table(self.probes, self.parents, pairs, pair_count(sheet))
+    }
+
+    // The deepest level of a probe, 0 with no probes.
+    pub fn depth(&self) -> Level
+        ensures { result ≡ record { 0 = most_probes self.now.probes (by_node self.now.levels) } }
+    {
+        walk::depth(self.probes, &self.levels)
+    }
 }
 
 // The rest of a sheet from a place on; nothing past its end.
@@ -66,44 +78,41 @@ fn pair_records(sheet: &[u8]) -> &[u8]
     rest(sheet, at + 2)
 }
 
-// The number that the sheet's tests before its records give; its place is 0.
-fn counts_number(sheet: &[u8]) -> u8
-    ensures { of_the_sheet result ≡ counts_test sheet.now }
+// A refusal of the sheet as a whole.
+fn of_the_sheet(fault: Fault) -> Refusal
+    ensures { outcome_of result ≡ of_the_sheet (number_of fault) }
 {
-    let length = sheet.len();
-    if length == 0 {
-        return 1;
-    }
-    let p = laws::number_at(sheet, 0) as usize;
-    if 63 < p {
-        return 2;
-    }
-    let at = pair_count_at(sheet);
-    if length < at + 2 {
-        return 1;
-    }
-    let q = pair_count(sheet) as usize;
-    if p * (p + 1) / 2 < q {
-        return 2;
-    }
-    let whole = at + 2 + 2 * q;
-    if length < whole {
-        return 1;
-    }
-    if whole < length {
-        return 3;
-    }
-    0
+    Refusal { fault, place: 0 }
 }
 
 // The sheet's tests before its records.
-fn counts_test(sheet: &[u8]) -> Outcome
-    ensures { result ≡ counts_test sheet.now }
+fn counts_test(sheet: &[u8]) -> Result<(), Refusal>
+    ensures { test_answer result ≡ counts_test sheet.now }
 {
-    Outcome {
-        number: counts_number(sheet),
-        place: 0,
+    let length = sheet.len();
+    if length == 0 {
+        return Err(of_the_sheet(Fault::SheetShort));
     }
+    let p = laws::number_at(sheet, 0) as usize;
+    if 63 < p {
+        return Err(of_the_sheet(Fault::CountTooLarge));
+    }
+    let at = pair_count_at(sheet);
+    if length < at + 2 {
+        return Err(of_the_sheet(Fault::SheetShort));
+    }
+    let q = pair_count(sheet) as usize;
+    if p * (p + 1) / 2 < q {
+        return Err(of_the_sheet(Fault::CountTooLarge));
+    }
+    let whole = at + 2 + 2 * q;
+    if length < whole {
+        return Err(of_the_sheet(Fault::SheetShort));
+    }
+    if whole < length {
+        return Err(of_the_sheet(Fault::SheetLong));
+    }
+    Ok(())
 }
 
 // A parent that is 0, above n, or the probe itself.
@@ -121,40 +130,34 @@ fn packets_wrong(packets: u8) -> bool
 }
 
 // 4 and 5 of probe k + 2.
-fn probe_test(records: &[u8], p: u8, k: u8) -> Outcome
-    ensures { result ≡ probe_test records.now p k }
+fn probe_test(records: &[u8], p: u8, k: u8) -> Result<(), Refusal>
+    ensures { test_answer result ≡ probe_test records.now p k }
 {
-    let probe = k as u16 + 2;
+    let place = k as u16 + 2;
     let at = 2 * (k as usize);
-    if parent_wrong(laws::number_at(records, at) as u16, p as u16 + 1, probe) {
-        return Outcome {
-            number: 4,
-            place: probe,
-        };
+    if parent_wrong(laws::number_at(records, at) as u16, p as u16 + 1, place) {
+        return Err(Refusal {
+            fault: Fault::ParentWrong,
+            place,
+        });
     }
     if packets_wrong(laws::number_at(records, at + 1)) {
-        return Outcome {
-            number: 5,
-            place: probe,
-        };
+        return Err(Refusal {
+            fault: Fault::TooManyPackets,
+            place,
+        });
     }
-    meaning::ACCEPTED
+    Ok(())
 }
 
 // The probes' tests in rising number, up to the first that gives a number.
-fn probes_test(records: &[u8], p: u8) -> Outcome
-    ensures { result ≡ in_order p (probe_test records.now p) }
+fn probes_test(records: &[u8], p: u8) -> Result<(), Refusal>
+    ensures { test_answer result ≡ in_order p (probe_test records.now p) }
 {
-    let mut found = meaning::ACCEPTED;
-    let mut k: u8 = 0;
-    while k < p {
-        found = probe_test(records, p, k);
-        if found.number != 0 {
-            return found;
-        }
-        k += 1;
+    for k in 0..p {
+        probe_test(records, p, k)?;
     }
-    found
+    Ok(())
 }
 
 // One byte of the record of node v; 0 where v is no probe.
@@ -178,10 +181,8 @@ fn by_node(records: &[u8], p: u8, side: usize) -> [u8; 65]
     ensures { result ≡ tab places (record_byte records.now p side) }
 {
     let mut table = [0u8; 65];
-    let mut v = 0;
-    while v < 65 {
+    for v in 0..65 {
         table[v] = record_byte(records, p, side, v);
-        v += 1;
     }
     table
 }
@@ -200,42 +201,30 @@ fn packets(records: &[u8], p: u8) -> [u8; 65]
     by_node(records, p, 1)
 }
 
-// The walks of a yard where this probe never arrives.
-fn strayed(probe: Probe) -> Walks
-    ensures { result ≡ strayed probe.0 }
+// The refusal where the walk from this probe never arrives.
+fn strayed(probe: Probe) -> Refusal
+    ensures { outcome_of result ≡ strayed probe.0 }
 {
-    Walks {
-        outcome: Outcome {
-            number: 6,
-            place: probe.0 as u16,
-        },
-        levels: [0u8; 65],
+    Refusal {
+        fault: Fault::NeverArrives,
+        place: probe.0 as u16,
     }
 }
 
-// The probes' walks in rising number, up to the first that never arrives: 6, or the level of each.
-fn walks_test(parents: &[u8; 65], p: u8) -> Walks
+// The probes' walks in rising number, up to the first that never arrives: the level of each, by node.
+fn walks_test(parents: &[u8; 65], p: u8) -> Result<[u8; 65], Refusal>
     requires { p ≤ 63 }
-    ensures { result ≡ walks_of (by_node parents.now) p }
+    ensures { Answers (in_order p (walk_test (by_node parents.now) p)) (levels_by (by_node parents.now) p) result }
 {
     let mut levels = [0u8; 65];
-    let mut k: u8 = 0;
-    while k < p {
+    for k in 0..p {
         let probe = k + 2;
-        match walk::climb(parents, Node(probe), p) {
-            Walk::Arrives(level) => {
-                levels[probe as usize] = level.0;
-            }
-            Walk::Never => {
-                return strayed(Probe(probe));
-            }
-        }
-        k += 1;
+        let Some(level) = walk::climb(parents, Node(probe), p) else {
+            return Err(strayed(Probe(probe)));
+        };
+        levels[probe as usize] = level.0;
     }
-    Walks {
-        outcome: meaning::ACCEPTED,
-        levels,
-    }
+    Ok(levels)
 }
 
 // A pair with a = 0, a ≥ b or b > n.
@@ -253,21 +242,22 @@ fn rises(a: u16, b: u16, c: u16, d: u16) -> bool
 }
 
 // 7 and 8 of pair k + 1.
-fn pair_test(records: &[u8], p: u8, k: u16) -> Outcome
+fn pair_test(records: &[u8], p: u8, k: u16) -> Result<(), Refusal>
     requires { k < 65535 }
-    ensures { result ≡ pair_test records.now p k }
+    ensures { test_answer result ≡ pair_test records.now p k }
 {
+    let place = k + 1;
     let at = 2 * (k as usize);
     let a = laws::number_at(records, at) as u16;
     let b = laws::number_at(records, at + 1) as u16;
     if pair_wrong(a, b, p as u16 + 1) {
-        return Outcome {
-            number: 7,
-            place: k + 1,
-        };
+        return Err(Refusal {
+            fault: Fault::PairWrong,
+            place,
+        });
     }
     if k == 0 {
-        return meaning::ACCEPTED;
+        return Ok(());
     }
     let before = 2 * (k as usize - 1);
     if rises(
@@ -276,84 +266,42 @@ fn pair_test(records: &[u8], p: u8, k: u16) -> Outcome
         a,
         b,
     ) {
-        return meaning::ACCEPTED;
+        return Ok(());
     }
-    Outcome {
-        number: 8,
-        place: k + 1,
-    }
+    Err(Refusal {
+        fault: Fault::PairNotAbove,
+        place,
+    })
 }
 
 // The pairs' tests in order, up to the first that gives a number.
-fn pairs_test(records: &[u8], p: u8, q: u16) -> Outcome
-    ensures { result ≡ in_order q (pair_test records.now p) }
+fn pairs_test(records: &[u8], p: u8, q: u16) -> Result<(), Refusal>
+    ensures { test_answer result ≡ in_order q (pair_test records.now p) }
 {
-    let mut found = meaning::ACCEPTED;
-    let mut k: u16 = 0;
-    while k < q {
-        found = pair_test(records, p, k);
-        if found.number != 0 {
-            return found;
-        }
-        k += 1;
+    for k in 0..q {
+        pair_test(records, p, k)?;
     }
-    found
-}
-
-// What a refused sheet is read as.
-fn refused(outcome: Outcome) -> Tree
-    ensures { result ≡ refused_tree outcome }
-{
-    Tree {
-        outcome,
-        probes: 0,
-        parents: [0u8; 65],
-        packets: [0u8; 65],
-        levels: [0u8; 65],
-        hops: 0,
-    }
+    Ok(())
 }
 
 // Reads a sheet whole, by the tests in the order of RULES, "Numbers returned": counts, probes, walks, pairs.
-pub fn read(sheet: &[u8]) -> Tree
-    ensures { result ≡ tree_of sheet.now }
+pub fn read(sheet: &[u8]) -> Result<Tree, Refusal>
+    ensures { Answers (sheet_test sheet.now) (tree_of sheet.now) result }
 {
-    let counts = counts_test(sheet);
-    if counts.number != 0 {
-        return refused(counts);
-    }
+    counts_test(sheet)?;
     let probes = laws::number_at(sheet, 0);
     let records = probe_records(sheet);
-    let tested = probes_test(records, probes);
-    if tested.number != 0 {
-        return refused(tested);
-    }
+    probes_test(records, probes)?;
     let parents = parents(records, probes);
-    let walks = walks_test(&parents, probes);
-    let walked = walks.outcome;
-    if walked.number != 0 {
-        return refused(walked);
-    }
-    let outcome = pairs_test(pair_records(sheet), probes, pair_count(sheet));
-    if outcome.number != 0 {
-        return refused(outcome);
-    }
+    let levels = walks_test(&parents, probes)?;
+    pairs_test(pair_records(sheet), probes, pair_count(sheet))?;
     let packets = packets(records, probes);
-    let levels = walks.levels;
     let hops = walk::hops(probes, &packets, &levels);
-    Tree {
-        outcome,
+    Ok(Tree {
         probes,
         parents,
         packets,
         levels,
         hops,
-    }
-}
-
-// The conflict table of a sheet, by its tree; its pairs are handed on as they stand.
-pub fn conflicts(sheet: &[u8], p: u8, parents: [u8; 65]) -> [[bool; 65]; 65]
-    ensures { result ≡ table_of (conflict p (by_node parents) (interfere (pair_records sheet.now) (pair_count sheet.now))) }
-{
-    conflict::table(p, parents, pair_records(sheet), pair_count(sheet))
+    })
 }

@@ -8,7 +8,7 @@ use native.Mathlib.Omega.{arith}
 use borrow.Author.Tests.{not-false, lt-ltb, le-ltb, ltb-true, ltb-false}
 use lib.Dec.{ltb}
 use lib.ListN.{length, get_or}
-use Rattle.meaning.specs.declared.Tested.{Tested}
+use Rattle.meaning.specs.Returned.{Tested}
 use Rattle.meaning.specs.Words.{for_each, some, least}
 use Rattle.meaning.specs.Yard.{is_probe}
 use Rattle.meaning.specs.Rounds.{holds}

@@ -1,6 +1,6 @@
 -- What the code asks of a slot's senders besides the meaning's tests.
 use Rattle.std.specs.Prelude.{cond, List, ℕ, ◌<◌, length, get_or}
-use Rattle.meaning.specs.declared.Tested.{Tested}
+use Rattle.meaning.specs.Returned.{Tested}
 use Rattle.meaning.specs.Words.{Node, Relation, places}
 use Rattle.meaning.specs.Yard.{is_probe}
 use Rattle.meaning.specs.Rounds.{holds}

@@ -1,7 +1,7 @@
 // What is done with a slot: where it stands in a plan, its test, moving its packets, and whether any packet is outside the gateway.
 #![tactic(auto)]
 
-ghost use Rattle.std.specs.Prelude.{◌≡◌, ◌+◌, ◌-◌, ◌≤◌, ◌<◌, length, get_or};
+ghost use Rattle.std.specs.Prelude.{◌≡◌, ◌+◌, ◌-◌, ◌≤◌, ◌<◌, Err, length, get_or};
 ghost use Rattle.meaning.specs.Words.{by_node, least};
 ghost use Rattle.meaning.specs.Yard.{is_probe};
 ghost use Rattle.meaning.specs.Sheet.{two_at};
@@ -9,12 +9,14 @@ ghost use Rattle.meaning.specs.Plan.{senders_at};
 ghost use Rattle.meaning.specs.Conflict.{entry};
 ghost use Rattle.meaning.specs.Rounds.{outside};
 ghost use Rattle.meaning.specs.Judge.{no_probe, not_rising, no_packet, slot_tested};
+ghost use Rattle.meaning.specs.Returned.{number_of};
+ghost use Rattle.meaning.specs.Results.{tested_answer};
 ghost use Rattle.laws.specs.Few.{at_most63};
 ghost use Rattle.slot.specs.Place.{slot_at};
 ghost use Rattle.slot.specs.SlotSenders.{Nodes, first_two, blaming, lone_tested};
 ghost use Rattle.slot.specs.Move.{hop_within, moved_within};
 
-use meaning::{Names, Outcome, Probe, Slot, Tested};
+use meaning::{Blame, Fault, Names, Probe, Refusal, Slot};
 
 // Where a slot stands in a plan.
 #[derive(Clone, Copy)]
@@ -65,7 +67,7 @@ pub fn slot_count(plan: &[u8]) -> u16
     ensures answer { result ≡ two_at plan.now 0 }
     ensures bytes { (get_or plan.now 0 0 < 256) × (get_or plan.now 1 0 < 256) }
 {
-    256 * (laws::number_at(plan, 0) as u16) + laws::number_at(plan, 1) as u16
+    u16::from_be_bytes([laws::number_at(plan, 0), laws::number_at(plan, 1)])
 }
 
 // Whether a sender is one of the probes 2 to p + 1, by one comparison: 254 for less 2, which wraps a byte below 2 above any p.
@@ -76,6 +78,7 @@ fn is_probe(p: u8, sender: u8) -> bool
     (sender as u16 + 254) % 256 < p as u16
 }
 
+// The four searches count by hand and say a number for none: with position, for and Option judging took up to 1.7 times as long.
 // 12: the place of the first sender that is no probe, or their number where none is.
 fn no_probe(p: u8, slot: &[u8]) -> usize
     ensures { result ≡ least (length slot.now) (no_probe (at_most63 p) slot.now) }
@@ -153,29 +156,31 @@ fn two_conflict(table: &[[bool; 65]; 65], slot: &[u8]) -> Two
     Two { first, second }
 }
 
-// A number at its slot, and whom it names.
-fn blamed(number: u8, slot: Slot, first: u8, second: u8) -> Tested
-    ensures { result ≡ blaming number slot.0 first second }
+// A fault at its slot, and whom it names.
+fn blamed(fault: Fault, slot: Slot, first: u8, second: u8) -> Blame
+    ensures { tested_answer (Err result) ≡ blaming (number_of fault) slot.0 first second }
 {
-    let place = slot.0;
-    Tested {
-        outcome: Outcome { number, place },
+    Blame {
+        refusal: Refusal {
+            fault,
+            place: slot.0,
+        },
         names: Names { first, second },
     }
 }
 
 // 12 and 14 of a slot with one sender, the usual slot of a crowded yard: 13 and 15 want two.
-fn lone_tested(p: u8, held: &[u16; 65], number: Slot, sender: u8) -> Tested
-    ensures { result ≡ lone_tested (at_most63 p) held.now number.0 sender }
+fn lone_tested(p: u8, held: &[u16; 65], number: Slot, sender: u8) -> Result<(), Blame>
+    ensures { tested_answer result ≡ lone_tested (at_most63 p) held.now number.0 sender }
 {
     if !is_probe(laws::at_most_63(p), sender) {
-        return blamed(12, number, sender, 0);
+        return Err(blamed(Fault::NoProbe, number, sender, 0));
     }
     let node = sender as usize;
     if held[node] == 0 {
-        return blamed(14, number, sender, 0);
+        return Err(blamed(Fault::NoPacket, number, sender, 0));
     }
-    meaning::PASSED
+    Ok(())
 }
 
 // 12 to 15 of one slot, each over the whole slot before the next, and whom the number names.
@@ -185,8 +190,8 @@ pub fn slot_tested(
     held: &[u16; 65],
     number: Slot,
     slot: &[u8],
-) -> Tested
-    ensures { result ≡ slot_tested (at_most63 p) (entry table.now) held.now number.0 slot.now }
+) -> Result<(), Blame>
+    ensures { tested_answer result ≡ slot_tested (at_most63 p) (entry table.now) held.now number.0 slot.now }
 {
     let many = slot.len();
     if many == 1 {
@@ -194,23 +199,23 @@ pub fn slot_tested(
     }
     let stranger = no_probe(p, slot);
     if stranger < many {
-        return blamed(12, number, slot[stranger], 0);
+        return Err(blamed(Fault::NoProbe, number, slot[stranger], 0));
     }
     let later = not_rising(slot);
     if later < many {
-        return blamed(13, number, slot[later], 0);
+        return Err(blamed(Fault::NotAbove, number, slot[later], 0));
     }
     let empty = no_packet(held, slot);
     if empty < many {
-        return blamed(14, number, slot[empty], 0);
+        return Err(blamed(Fault::NoPacket, number, slot[empty], 0));
     }
     let two = two_conflict(table, slot);
     let first = two.first;
     let second = two.second;
     if first < many {
-        return blamed(15, number, slot[first], slot[second]);
+        return Err(blamed(Fault::Conflict, number, slot[first], slot[second]));
     }
-    meaning::PASSED
+    Ok(())
 }
 
 // Moves one packet of a sender to its parent; where one of them has no place, the sender no packet or the parent no room, nothing moves.
@@ -236,7 +241,7 @@ fn hop(parents: &[u8; 65], sender: Probe, held: &mut [u16; 65])
     held[up] += 1;
 }
 
-// Moves a packet of each sender, in turn; a lone one needs no loop.
+// Moves a packet of each sender, in turn; a lone one needs no loop. It counts by hand, as the searches do, for their speed.
 pub fn move_packets(parents: &[u8; 65], slot: &[u8], held: &mut [u16; 65])
     ensures { held.new ≡ moved_within (by_node parents.now) slot.now held.old }
 {
@@ -256,13 +261,11 @@ pub fn any_outside(p: u8, held: &[u16; 65]) -> bool
     ensures { result ≡ outside (at_most63 p) held.now }
 {
     let probes = laws::at_most_63(p);
-    let mut k: u8 = 0;
-    while k < probes {
+    for k in 0..probes {
         let v = (k + 2) as usize;
         if held[v] != 0 {
             return true;
         }
-        k += 1;
     }
     false
 }
@@ -272,10 +275,8 @@ pub fn wide(packets: [u8; 65]) -> [u16; 65]
     ensures { result ≡ packets }
 {
     let mut held = [0u16; 65];
-    let mut i = 0;
-    while i < 65 {
+    for i in 0..65 {
         held[i] = packets[i] as u16;
-        i += 1;
     }
     held
 }

@@ -1,3 +1,3 @@
 -- Laws that belong to no one function.
 pub mod TableLong
-pub mod Counting
+pub mod TextsSaid

@@ -1,103 +1,62 @@
 // A graph's table as a person reads it: every byte of it, in a lent buffer.
 #![tactic(auto)]
 
-ghost use Rattle.std.specs.Prelude.{◌≡◌, cond, [], ◌≤◌, length, take};
-ghost use Rattle.meaning.specs.Lister.{said};
+ghost use Rattle.std.specs.Prelude.{◌≡◌, ◌≤◌, length, take};
 ghost use Rattle.lines.specs.Line.{line_length, line_in};
-ghost use Rattle.lines.specs.Fits.{Fits};
-ghost use Rattle.graph.specs.Drawing.{texts};
-ghost use Rattle.tabled.specs.Tabled.{head_line, degree_in, joined_text, vertex_line, vertex_text, shown_table};
+ghost use Rattle.lines.specs.Text.{Says};
+ghost use Rattle.tabled.specs.Tabled.{head_line, degree_in, vertex_line, shown_table};
+
+use lines::Text;
 
 // Room for any table: 64 lines of at most 400 bytes.
 pub const ANY_TABLE: usize = 25600;
 
-// Puts the line of the whole graph at a place; says where it ends.
-fn put_head(vertices: u8, edges: u16, out: &mut [u8], at: usize) -> usize
-    ensures { Fits out.old at (head_line vertices edges) out.new result }
+// A table as it is said.
+type Table = Text<ANY_TABLE>;
+
+// Says the line of the whole graph.
+fn say_head(text: &mut Table, vertices: u8, edges: u16)
+    ensures { Says 25600 text.old (head_line vertices edges) text.new }
 {
-    let a = lines::put_counted(b"vertices ", vertices as u16, out, at);
-    let b = lines::put_counted(b" edges ", edges, out, a);
-    lines::put_words(b"\n", out, b)
+    text.counted(b"vertices ", vertices as u16);
+    text.counted(b" edges ", edges);
+    text.words(b"\n");
 }
 
 // How many vertices a vertex is joined to.
 fn degree(row: &[bool; 65]) -> u16
     ensures { result ≡ degree_in row.now }
 {
-    let mut n: u16 = 0;
-    let mut k = 0;
-    while k < 63 {
-        if row[k + 2] {
-            n += 1;
-        }
-        k += 1;
+    let mut n = 0;
+    for k in 0..63 {
+        n += u16::from(row[k + 2]);
     }
     n
 }
 
-// Puts a vertex after a space, or nothing where it is not joined; says where it ends.
-fn put_joined(is: bool, u: u16, out: &mut [u8], at: usize) -> usize
-    ensures { Fits out.old at (cond is (said "" u) []) out.new result }
+// Says the line of a vertex: its number, its degree, and each vertex that it is joined to after a space.
+fn say_vertex(text: &mut Table, v: u8, row: &[bool; 65])
+    ensures { Says 25600 text.old (vertex_line v row.now) text.new }
 {
-    if !is {
-        return at;
+    text.counted(b"", v as u16);
+    text.counted(b" degree ", degree(row));
+    text.words(b":");
+    for k in 0..63 {
+        if row[k as usize + 2] {
+            text.counted(b" ", k + 1);
+        }
     }
-    lines::put_counted(b" ", u, out, at)
+    text.words(b"\n");
 }
 
-// Puts the vertices that a vertex is joined to; says where they end.
-fn put_all_joined(row: &[bool; 65], out: &mut [u8], at: usize) -> usize
-    ensures { Fits out.old at (texts 63 (joined_text row.now)) out.new result }
+// Says the line of the graph and one for each vertex, which has the row of the node behind it.
+fn say_table(text: &mut Table, vertices: u8, table: &[[bool; 65]; 65])
+    ensures { Says 25600 text.old (shown_table vertices table.now) text.new }
 {
-    let mut end = at;
-    let mut k: u16 = 0;
-    while k < 63 {
-        end = put_joined(row[k as usize + 2], k + 1, out, end);
-        k += 1;
+    say_head(text, vertices, graph::edges(table));
+    for k in 0..vertices.min(63) {
+        say_vertex(text, k + 1, &table[k as usize + 2]);
     }
-    end
-}
-
-// Puts the line of a vertex at a place; says where it ends.
-fn put_vertex(v: u8, row: &[bool; 65], out: &mut [u8], at: usize) -> usize
-    ensures { Fits out.old at (vertex_line v row.now) out.new result }
-{
-    let a = lines::put_counted(b"", v as u16, out, at);
-    let b = lines::put_counted(b" degree ", degree(row), out, a);
-    let d = lines::put_words(b":", out, b);
-    let e = put_all_joined(row, out, d);
-    lines::put_words(b"\n", out, e)
-}
-
-// The same, or nothing where there is no such vertex.
-fn put_shown(is: bool, v: u8, row: &[bool; 65], out: &mut [u8], at: usize) -> usize
-    ensures { Fits out.old at (cond is (vertex_line v row.now) []) out.new result }
-{
-    if !is {
-        return at;
-    }
-    put_vertex(v, row, out, at)
-}
-
-// Puts a line for each vertex, which has the row of the node behind it; says where they end.
-fn put_all_shown(vertices: u8, table: &[[bool; 65]; 65], out: &mut [u8], at: usize) -> usize
-    ensures { Fits out.old at (texts 63 (vertex_text vertices table.now)) out.new result }
-{
-    let mut end = at;
-    let mut k: u8 = 0;
-    while k < 63 {
-        end = put_shown(k < vertices, k + 1, &table[k as usize + 2], out, end);
-        k += 1;
-    }
-    end
-}
-
-// Puts the line of the graph and those of its vertices at a place; says where they end.
-fn put_table(vertices: u8, table: &[[bool; 65]; 65], out: &mut [u8], at: usize) -> usize
-    ensures { Fits out.old at (shown_table vertices table.now) out.new result }
-{
-    let next = put_head(vertices, graph::edges(table), out, at);
-    put_all_shown(vertices, table, out, next)
 }
 
 // The table of a graph, at the start of a lent buffer; says how many bytes it has, 0 and nothing written where they do not fit.
@@ -106,7 +65,7 @@ pub fn table_text(vertices: u8, table: &[[bool; 65]; 65], out: &mut [u8]) -> usi
     ensures answer { result ≡ line_length out.old (shown_table vertices table.now) }
     ensures buffer { out.new ≡ line_in out.old (shown_table vertices table.now) }
 {
-    let mut text = [0u8; ANY_TABLE];
-    let n = put_table(vertices, table, &mut text, 0);
-    lines::put_words(&text[..n], out, 0)
+    let mut text = Text::new();
+    say_table(&mut text, vertices, table);
+    lines::put_words(text.as_slice(), out, 0)
 }

@@ -7,8 +7,8 @@ use Prim.Native.Nat.{ℕ, ◌*◌, ◌≤◌, min}
 use native.Mathlib.Omega.{arith}
 use lib.ListN.{length, get_or}
 use Rattle.meaning.specs.declared.Mode.TheVariants.{Packets}
-use Rattle.meaning.specs.declared.Planned.{Planned}
-use Rattle.meaning.specs.declared.Told.{Told}
+use Rattle.meaning.specs.Returned.{Planned}
+use Rattle.meaning.specs.Returned.{Told}
 use Rattle.meaning.specs.Yard.{slowest_of, least_slots_of}
 use Rattle.meaning.specs.Sheet.{least_slots}
 use Rattle.meaning.specs.Plan.{any_plan}
@@ -43,15 +43,15 @@ module _ (s : List ℕ) {planned : Planned} (is : planned ≡ (plan_made by_prob
   pub ask-refused : planned.outcome.number ≢ 0 → nothing planned ≡ asked s
   ask-refused refused = tells-nothing Packets by_probe s any_plan is (whole s) nothing refused ∙ sym (asked-tells s)
 
-  module _ (passed : planned.outcome.number ≡ 0) {tree : Tree} (read : tree ≡ tree_of s) where
-    ok : is_accepted (sheet_test s) ≡ true
-    ok = sheet-passed Packets by_probe s any_plan is passed
+  pub ok : planned.outcome.number ≡ 0 → is_accepted (sheet_test s) ≡ true
+  ok passed = sheet-passed Packets by_probe s any_plan is passed
 
+  module _ (passed : planned.outcome.number ≡ 0) {tree : Tree} (read : tree ≡ tree_of s) where
     its : Standing s tree
-    its = standing s ok tree read
+    its = standing s (ok passed) tree read
 
     pub most-fits : {most : ℕ} (product : ℕ) → most ≡ min product tree.hops → most ≤ 59535
-    most-fits product e = omega (arith, e, its.hops, hops-most s ok)
+    most-fits product e = omega (arith, e, its.hops, hops-most s (ok passed))
 
     pub ask-planned : {least slow most times : ℕ}
         → least ≡ least_slots_of tree.probes (λ v. get_or tree.parents v 0) (λ v. get_or tree.packets v 0)
@@ -60,8 +60,8 @@ module _ (s : List ℕ) {planned : Planned} (is : planned ≡ (plan_made by_prob
         → times ≡ times_any planned.colours planned.slots least
         → (record { outcome = planned.outcome; least = least; ours = planned.slots; most = most; times = times }) ≡ asked s
     ask-planned {least} least-of slowest-of most-of times-of =
-        let few = least-of ∙ least-slots-read s ok tree its in
-        let end = most-of ∙ ap₂ (λ (h j : ℕ). min (planned.colours * h) j) (slowest-of ∙ slowest-read s ok tree its) its.hops in
+        let few = least-of ∙ least-slots-read s (ok passed) tree its in
+        let end = most-of ∙ ap₂ (λ (h j : ℕ). min (planned.colours * h) j) (slowest-of ∙ slowest-read s (ok passed) tree its) its.hops in
         ap₂ (λ (m t : ℕ). record { outcome = planned.outcome; least = least; ours = planned.slots; most = m; times = t }) end times-of
         ∙ ap
         (λ (l : ℕ).

@@ -1,7 +1,8 @@
 // A wake book as a person reads it: the line of each probe, from the bytes of its entry.
 #![tactic(auto)]
 
-ghost use Rattle.std.specs.Prelude.{◌≡◌, ◌+◌, ◌≤◌, length, take};
+ghost use Rattle.std.specs.Prelude.{◌≡◌, ◌++◌, ◌+◌, ◌≤◌, length, take};
+ghost use Rattle.meaning.specs.Lister.{decimal};
 ghost use Rattle.meaning.specs.Sheet.{two_at};
 ghost use Rattle.meaning.specs.Book.{list_at, behind_list, slots_text, wake_line};
 ghost use Rattle.lines.specs.Line.{line_length, line_in};
@@ -9,12 +10,37 @@ ghost use Rattle.lines.specs.Fits.{Fits};
 
 use meaning::Probe;
 
+// A line as it is said into a lent buffer, piece by piece, and where it ends.
+#[derive(Drop)]
+struct Line<'a> {
+    out: &'a mut [u8],
+    end: usize,
+}
+
+impl Line<'_> {
+    // Says bytes.
+    fn words(&mut self, bytes: &[u8])
+        ensures same_reference { self.new.out.ghost_name ≡ self.old.out.ghost_name }
+        ensures said { Fits self.old.out.now self.old.end bytes.now self.new.out.now self.new.end }
+    {
+        self.end = lines::put_words(bytes, self.out, self.end);
+    }
+
+    // Says words and then a number.
+    fn counted(&mut self, words: &[u8], n: u16)
+        ensures same_reference { self.new.out.ghost_name ≡ self.old.out.ghost_name }
+        ensures said { Fits self.old.out.now self.old.end (words.now ++ decimal 5 n) self.new.out.now self.new.end }
+    {
+        self.end = lines::put_counted(words, n, self.out, self.end);
+    }
+}
+
 // What two bytes at a place say, high first; a byte past the end is 0.
 fn two_at(entry: &[u8], at: usize) -> u16
     requires { at ≤ 300000 }
     ensures { result ≡ two_at entry.now at }
 {
-    256 * (laws::number_at(entry, at) as u16) + laws::number_at(entry, at + 1) as u16
+    u16::from_be_bytes([laws::number_at(entry, at), laws::number_at(entry, at + 1)])
 }
 
 // Where the list behind the one at a place begins.
@@ -42,33 +68,28 @@ fn slots_length(entry: &[u8], at: usize) -> usize
     if many == 0 {
         return 8;
     }
-    let mut all: usize = 0;
-    let mut i: u16 = 0;
-    while i < many {
+    let mut all = 0;
+    for i in 0..many {
         let slot = two_at(entry, at + 2 + 2 * (i as usize));
         all += 1 + lines::digits(5, slot as u64) as usize;
-        i += 1;
     }
     all
 }
 
-// Puts the slots of the list at a place; says where they end.
-fn put_slots(entry: &[u8], at: usize, out: &mut [u8], start: usize) -> usize
+// Says the slots of the list at a place.
+fn say_slots(line: &mut Line, entry: &[u8], at: usize)
     requires { at ≤ 131072 }
-    ensures { Fits out.old start (slots_text (list_at entry.now at)) out.new result }
+    ensures same_reference { line.new.out.ghost_name ≡ line.old.out.ghost_name }
+    ensures said { Fits line.old.out.now line.old.end (slots_text (list_at entry.now at)) line.new.out.now line.new.end }
 {
     let many = two_at(entry, at);
     if many == 0 {
-        return lines::put_words(b" no slot", out, start);
+        return line.words(b" no slot");
     }
-    let mut end = start;
-    let mut i: u16 = 0;
-    while i < many {
+    for i in 0..many {
         let slot = two_at(entry, at + 2 + 2 * (i as usize));
-        end = lines::put_counted(b" ", slot, out, end);
-        i += 1;
+        line.counted(b" ", slot);
     }
-    end
 }
 
 // The line of a probe, from the start of its entry on, at the start of a lent buffer; says how many bytes it has, 0 and nothing written where they do not fit.
@@ -86,10 +107,12 @@ pub fn wake_line(probe: Probe, entry: &[u8], out: &mut [u8]) -> usize
     if out.len() < need {
         return 0;
     }
-    let a = lines::put_counted(b"probe ", v, out, 0);
-    let b = lines::put_words(b" sends in", out, a);
-    let d = put_slots(entry, 0, out, b);
-    let e = lines::put_words(b", listens in", out, d);
-    let end = put_slots(entry, second, out, e);
-    lines::put_words(b"\n", out, end)
+    let mut line = Line { out, end: 0 };
+    line.counted(b"probe ", v);
+    line.words(b" sends in");
+    say_slots(&mut line, entry, 0);
+    line.words(b", listens in");
+    say_slots(&mut line, entry, second);
+    line.words(b"\n");
+    line.end
 }

@@ -5,24 +5,22 @@ ghost use Rattle.std.specs.Prelude.{◌≡◌, ◌*◌, ◌≤◌, get_or};
 ghost use Rattle.meaning.specs.Words.{most_probes, by_node};
 ghost use Rattle.meaning.specs.Yard.{climbed, hops_of};
 
-use meaning::{Level, Node, Walk};
+use meaning::{Level, Node};
 
-// Where the walk from a node ends, which has `left` hops to take.
-pub fn climb(parents: &[u8; 65], v: Node, left: u8) -> Walk
+// The level at which the walk from a node arrives, which has `left` hops to take; none where it never does.
+pub fn climb(parents: &[u8; 65], v: Node, left: u8) -> Option<Level>
     ensures { result ≡ climbed (by_node parents.now) left v.0 }
 {
     let node = v.0;
     if node == 1 {
-        return Walk::Arrives(Level(0));
+        return Some(Level(0));
     }
     if left == 0 {
-        return Walk::Never;
+        return None;
     }
     let parent = laws::number_at(parents, node as usize);
-    match climb(parents, Node(parent), left - 1) {
-        Walk::Arrives(level) => Walk::Arrives(Level(level.0 + 1)),
-        Walk::Never => Walk::Never,
-    }
+    let level = climb(parents, Node(parent), left - 1)?;
+    Some(Level(level.0 + 1))
 }
 
 // The hops of one node: its packets times its level.
@@ -33,15 +31,13 @@ fn hops_at(packets: &[u8; 65], levels: &[u8; 65], v: usize) -> u32
     laws::number_at(packets, v) as u32 * laws::number_at(levels, v) as u32
 }
 
-// The sum over all probes of packets times level.
+// The sum over all probes of packets times level. By tables: the sheet reckons it before there is a tree.
 pub fn hops(p: u8, packets: &[u8; 65], levels: &[u8; 65]) -> u32
     ensures { result ≡ hops_of p (by_node packets.now) (by_node levels.now) }
 {
     let mut hops: u32 = 0;
-    let mut k: u8 = 0;
-    while k < p {
+    for k in 0..p {
         hops += hops_at(packets, levels, k as usize + 2);
-        k += 1;
     }
     hops
 }
@@ -51,13 +47,8 @@ pub fn depth(p: u8, levels: &[u8; 65]) -> Level
     ensures { result ≡ record { 0 = most_probes p (by_node levels.now) } }
 {
     let mut deepest: u8 = 0;
-    let mut k: u8 = 0;
-    while k < p {
-        let level = laws::number_at(levels, k as usize + 2);
-        if deepest < level {
-            deepest = level;
-        }
-        k += 1;
+    for k in 0..p {
+        deepest = deepest.max(laws::number_at(levels, k as usize + 2));
     }
     Level(deepest)
 }

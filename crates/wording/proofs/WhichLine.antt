@@ -1,37 +1,35 @@
 -- Whom a number is said of, and which line an answer has.
 use mathlib.Core.Path.{◌≡◌}
 use mathlib.Core.Bool.{true, false}
-use mathlib.Core.List.{List, ◌++◌}
+use mathlib.Core.List.{List, [], ◌++◌}
 use Prim.Native.Nat.{ℕ, min}
 use borrow.Author.Tests.{eq-eqb, ne_eqb}
 use Rattle.meaning.specs.declared.Mode.{Mode}
 use Rattle.meaning.specs.declared.Outcome.{Outcome}
-use Rattle.meaning.specs.declared.Planned.{Planned}
-use Rattle.meaning.specs.declared.Judgement.{Judgement}
+use Rattle.meaning.specs.Returned.{Planned}
+use Rattle.meaning.specs.Returned.{Judgement}
 use Rattle.meaning.specs.Lister.{text, decimal, said}
-use Rattle.lines.specs.Fits.{Fits}
-use Rattle.lines.proofs.Fitting.{put-nothing}
 use Rattle.wording.specs.Worded.{of_senders, subject, one_or_two, refused_line, blamed_line, planned_line, verdict_line, written_line}
 
--- whom a number is said of: senders that are put, or nobody
+-- whom a number is said of: these senders, or nobody
 module _ (number : ℕ) (senders : List ℕ) where
-  pub put-subject : {l after : List ℕ} {at end : ℕ} → of_senders number ≡ true → Fits l at senders after end → Fits l at (subject number senders) after end
+  pub these : of_senders number ≡ true → senders ≡ subject number senders
   unfolding subject
-  put-subject e f = rw e f
+  these e = rw e
 
-  pub put-no-one : (l : List ℕ) (at : ℕ) → of_senders number ≡ false → Fits l at (subject number senders) l at
+  pub nobody : of_senders number ≡ false → [] ≡ subject number senders
   unfolding subject
-  put-no-one l at e = rw e (put-nothing l at)
+  nobody e = rw e
 
 -- two senders, or one
-module _ (two one : List ℕ) {l after : List ℕ} {at end number : ℕ} where
-  pub put_two : number ≡ 15 → Fits l at two after end → Fits l at (one_or_two number two one) after end
+module _ (two one : List ℕ) {number : ℕ} where
+  pub both-of : number ≡ 15 → two ≡ one_or_two number two one
   unfolding one_or_two
-  put_two e f = rw (eq-eqb number 15 e) f
+  both-of e = rw (eq-eqb number 15 e)
 
-  pub put_one : (number ≡ 15 → ⊥) → Fits l at one after end → Fits l at (one_or_two number two one) after end
+  pub one-of : (number ≡ 15 → ⊥) → one ≡ one_or_two number two one
   unfolding one_or_two
-  put_one ne f = rw (ne_eqb number 15 ne) f
+  one-of ne = rw (ne_eqb number 15 ne)
 
 -- the line of an answer where nothing is wrong, and where something is
 module _ (planned : Planned) where

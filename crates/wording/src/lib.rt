@@ -3,15 +3,17 @@
 
 ghost use Rattle.std.specs.Prelude.{◌≡◌, ◌++◌, ◌≤◌, min, length, take};
 ghost use Rattle.meaning.specs.Lister.{text, refusal};
+ghost use Rattle.meaning.specs.Results.{plan_answer, judge_answer};
 ghost use Rattle.lines.specs.Line.{line_length, line_in};
-ghost use Rattle.lines.specs.Fits.{Fits};
+ghost use Rattle.lines.specs.Text.{Says};
 ghost use Rattle.wording.specs.Worded.{of_senders, subject, said_of, any_senders, the_senders, named_senders};
-ghost use Rattle.wording.specs.Worded.{refused_line, blamed_line, planned_line, verdict_line, choice_line, choice_text, written_line, misread_line};
+ghost use Rattle.wording.specs.Worded.{refused_line, blamed_line, planned_line, verdict_line, choice_line, choice_text, written_said, misread_line};
 
-use meaning::{Choice, Judgement, Mode, Names, Outcome, Planned};
+use lines::{Answer, said};
+use meaning::{Blame, Choice, Mode, Names, Outcome, Plan, Refusal};
 
 // Room for any answer.
-pub const ANY_ANSWER: usize = 256;
+pub const ANY_ANSWER: usize = lines::ANY_ANSWER;
 
 // Whether a number is said of senders of a slot.
 fn is_of_senders(number: u8) -> bool
@@ -20,169 +22,166 @@ fn is_of_senders(number: u8) -> bool
     11 < number && number < 16
 }
 
-// Puts whom a number is said of, where nobody is named, at a place; says where that ends.
-fn put_any_senders(number: u8, out: &mut [u8], at: usize) -> usize
-    ensures { Fits out.old at (subject number (any_senders number)) out.new result }
+// Whom a number is said of, where nobody is named.
+fn any_senders(number: u8) -> &'static [u8]
+    ensures { result.now ≡ subject number (any_senders number) }
 {
     if !is_of_senders(number) {
-        return at;
+        return b"";
     }
     if number == 15 {
-        return lines::put_words(b"two senders of the slot", out, at);
+        return b"two senders of the slot";
     }
-    lines::put_words(b"a sender of the slot", out, at)
+    b"a sender of the slot"
 }
 
-// Puts what a number says, where nobody is named, at a place; says where it ends.
-fn put_said_of_any(number: u8, out: &mut [u8], at: usize) -> usize
-    ensures { Fits out.old at (said_of Mode.Packets number (any_senders number)) out.new result }
+// Says what a number says, where nobody is named.
+fn say_of_any(answer: &mut Answer, number: u8)
+    ensures { Says 256 answer.old (said_of Mode.Packets number (any_senders number)) answer.new }
 {
-    let a = put_any_senders(number, out, at);
-    sayings::put_saying(number, out, a)
+    answer.words(any_senders(number));
+    answer.words(sayings::words(number));
 }
 
-// Puts senders by their names at a place, for 15 both; says where they end.
-fn put_the_senders(number: u8, names: Names, out: &mut [u8], at: usize) -> usize
-    ensures { Fits out.old at (the_senders number names) out.new result }
+// Says senders by their names, for 15 both.
+fn say_the_senders(answer: &mut Answer, number: u8, names: Names)
+    ensures { Says 256 answer.old (the_senders number names) answer.new }
 {
     let first = names.first as u16;
     if number != 15 {
-        return lines::put_counted(b"sender ", first, out, at);
+        return answer.counted(b"sender ", first);
     }
     let second = names.second as u16;
-    let a = lines::put_counted(b"senders ", first, out, at);
-    lines::put_counted(b" and ", second, out, a)
+    answer.counted(b"senders ", first);
+    answer.counted(b" and ", second);
 }
 
-// Puts whom a refusal is said of by name, and their slot, at a place; says where that ends.
-fn put_named_senders(outcome: Outcome, names: Names, out: &mut [u8], at: usize) -> usize
-    ensures { Fits out.old at (subject outcome.number (named_senders outcome names)) out.new result }
+// Says whom a refusal is said of by name, and their slot.
+fn say_named_senders(answer: &mut Answer, outcome: Outcome, names: Names)
+    ensures { Says 256 answer.old (subject outcome.number (named_senders outcome names)) answer.new }
 {
     if !is_of_senders(outcome.number) {
-        return at;
+        return answer.words(b"");
     }
-    let a = put_the_senders(outcome.number, names, out, at);
-    lines::put_counted(b" of slot ", outcome.place, out, a)
+    say_the_senders(answer, outcome.number, names);
+    answer.counted(b" of slot ", outcome.place);
 }
 
-// Puts the number and the place of a refusal at a place; says where the colon behind them ends.
-fn put_refusal(outcome: Outcome, out: &mut [u8], at: usize) -> usize
-    ensures { Fits out.old at (refusal outcome ++ text ": ") out.new result }
+// Says the number and the place of a refusal, and a colon.
+fn say_refusal(answer: &mut Answer, outcome: Outcome)
+    ensures { Says 256 answer.old (refusal outcome ++ text ": ") answer.new }
 {
     let number = outcome.number as u16;
     let place = outcome.place;
-    let a = lines::put_counted(b"refused ", number, out, at);
-    let b = lines::put_counted(b" ", place, out, a);
-    lines::put_words(b": ", out, b)
+    answer.counted(b"refused ", number);
+    answer.counted(b" ", place);
+    answer.words(b": ");
 }
 
-// Puts the line of a refusal that names nobody at a place; says where it ends.
-fn put_refused(outcome: Outcome, out: &mut [u8], at: usize) -> usize
-    ensures { Fits out.old at (refused_line outcome) out.new result }
+// Says the line of a refusal that names nobody.
+fn say_refused(answer: &mut Answer, outcome: Outcome)
+    ensures { Says 256 answer.old (refused_line outcome) answer.new }
 {
-    let a = put_refusal(outcome, out, at);
-    let b = put_said_of_any(outcome.number, out, a);
-    lines::put_words(b"\n", out, b)
+    say_refusal(answer, outcome);
+    say_of_any(answer, outcome.number);
+    answer.words(b"\n");
 }
 
-// Puts the line of a refusal by the judge of a mode at a place; says where it ends.
-fn put_blamed(mode: Mode, outcome: Outcome, names: Names, out: &mut [u8], at: usize) -> usize
-    ensures { Fits out.old at (blamed_line mode outcome names) out.new result }
+// Says the line of a refusal by the judge of a mode.
+fn say_blamed(answer: &mut Answer, mode: Mode, outcome: Outcome, names: Names)
+    ensures { Says 256 answer.old (blamed_line mode outcome names) answer.new }
 {
-    let a = put_refusal(outcome, out, at);
-    let b = put_named_senders(outcome, names, out, a);
-    let d = sayings::put_saying_in(mode, outcome.number, out, b);
-    lines::put_words(b"\n", out, d)
+    say_refusal(answer, outcome);
+    say_named_senders(answer, outcome, names);
+    answer.words(sayings::words_in(mode, outcome.number));
+    answer.words(b"\n");
 }
 
-// As many bytes as a plan of ours can have, and no more.
-fn few(bytes: usize) -> u16
-    ensures { result ≡ min bytes 65535 }
+// Says the line of a planner's answer; no plan of ours has more bytes than a u16 counts.
+fn say_planned(answer: &mut Answer, planned: Result<Plan, Refusal>)
+    ensures { Says 256 answer.old (planned_line (plan_answer planned)) answer.new }
 {
-    if bytes < 65535 { bytes as u16 } else { 65535 }
-}
-
-// Puts the line of a planner's answer at a place; says where it ends.
-fn put_planned(planned: Planned, out: &mut [u8], at: usize) -> usize
-    ensures { Fits out.old at (planned_line planned) out.new result }
-{
-    let outcome = planned.outcome;
-    if outcome.number != 0 {
-        return put_refused(outcome, out, at);
+    match planned {
+        Err(refusal) => say_refused(answer, Outcome::from(refusal)),
+        Ok(plan) => {
+            let slots = plan.slots;
+            let colours = plan.colours as u16;
+            let bytes = plan.bytes.min(65535) as u16;
+            answer.counted(b"planned ", slots);
+            answer.counted(b" slots, ", colours);
+            answer.counted(b" colours, ", bytes);
+            answer.words(b" bytes\n");
+        }
     }
-    let slots = planned.slots;
-    let colours = planned.colours as u16;
-    let bytes = few(planned.bytes);
-    let a = lines::put_counted(b"planned ", slots, out, at);
-    let b = lines::put_counted(b" slots, ", colours, out, a);
-    let d = lines::put_counted(b" colours, ", bytes, out, b);
-    lines::put_words(b" bytes\n", out, d)
 }
 
-// Puts the line of the answer of a mode's judge at a place; says where it ends.
-fn put_verdict(mode: Mode, judgement: Judgement, out: &mut [u8], at: usize) -> usize
-    ensures { Fits out.old at (verdict_line mode judgement) out.new result }
+// Says the line of the answer of a mode's judge.
+fn say_verdict(answer: &mut Answer, mode: Mode, judged: Result<u16, Blame>)
+    ensures { Says 256 answer.old (verdict_line mode (judge_answer judged)) answer.new }
 {
-    let verdict = judgement.verdict;
-    let outcome = verdict.outcome;
-    if outcome.number != 0 {
-        let names = judgement.names;
-        return put_blamed(mode, outcome, names, out, at);
+    match judged {
+        Err(blame) => {
+            let outcome = Outcome::from(blame.refusal);
+            say_blamed(answer, mode, outcome, blame.names)
+        }
+        Ok(slots) => {
+            answer.counted(b"passed ", slots);
+            answer.words(b" slots\n");
+        }
     }
-    let a = lines::put_counted(b"passed ", verdict.slots, out, at);
-    lines::put_words(b" slots\n", out, a)
 }
 
-// Puts which of two plans was chosen at a place; says where it ends.
-fn put_choice(choice: Choice, out: &mut [u8], at: usize) -> usize
-    ensures { Fits out.old at (choice_line choice) out.new result }
+// Says which of two plans was chosen.
+fn say_choice(answer: &mut Answer, choice: Choice)
+    ensures { Says 256 answer.old (choice_line choice) answer.new }
 {
     match choice {
-        Choice::First => lines::put_words(b"first\n", out, at),
-        Choice::Second => lines::put_words(b"second\n", out, at),
-        Choice::Neither => lines::put_words(b"neither\n", out, at),
+        Choice::First => answer.words(b"first\n"),
+        Choice::Second => answer.words(b"second\n"),
+        Choice::Neither => answer.words(b"neither\n"),
     }
 }
 
-// Puts the choice and the judge's answer on both plans at a place; says where they end.
-fn put_chosen(
+// Says the choice and the judge's answer on both plans.
+fn say_chosen(
+    answer: &mut Answer,
     choice: Choice,
-    first: Judgement,
-    second: Judgement,
-    out: &mut [u8],
-    at: usize,
-) -> usize
-    ensures { Fits out.old at (choice_text choice first second) out.new result }
+    first: Result<u16, Blame>,
+    second: Result<u16, Blame>,
+)
+    ensures { Says 256 answer.old (choice_text choice (judge_answer first) (judge_answer second)) answer.new }
 {
-    let a = put_choice(choice, out, at);
-    let b = lines::put_words(b"first: ", out, a);
-    let d = put_verdict(Mode::Packets, first, out, b);
-    let e = lines::put_words(b"second: ", out, d);
-    put_verdict(Mode::Packets, second, out, e)
+    say_choice(answer, choice);
+    answer.words(b"first: ");
+    say_verdict(answer, Mode::Packets, first);
+    answer.words(b"second: ");
+    say_verdict(answer, Mode::Packets, second);
 }
 
-// Puts the line of who writes a text, a sheet or a book at a place; says where it ends.
-fn put_written(outcome: Outcome, bytes: usize, out: &mut [u8], at: usize) -> usize
-    ensures { Fits out.old at (written_line outcome bytes) out.new result }
+// Says the line of who writes a text, a sheet or a book, by how many bytes it has.
+fn say_written(answer: &mut Answer, written: Result<usize, Refusal>)
+    ensures { Says 256 answer.old (written_said written) answer.new }
 {
-    if outcome.number != 0 {
-        return put_refused(outcome, out, at);
+    match written {
+        Err(refusal) => say_refused(answer, Outcome::from(refusal)),
+        Ok(bytes) => {
+            answer.words(b"written ");
+            answer.long(bytes as u64);
+            answer.words(b" bytes\n");
+        }
     }
-    let a = lines::put_words(b"written ", out, at);
-    let b = lines::put_long(bytes as u64, out, a);
-    lines::put_words(b" bytes\n", out, b)
 }
 
-// Puts the refusal of a text at a place; says where it ends.
-fn put_misread(number: u8, place: u64, out: &mut [u8], at: usize) -> usize
-    ensures { Fits out.old at (misread_line number place) out.new result }
+// Says the refusal of a text.
+fn say_misread(answer: &mut Answer, number: u8, place: u64)
+    ensures { Says 256 answer.old (misread_line number place) answer.new }
 {
-    let a = lines::put_counted(b"refused ", number as u16, out, at);
-    let b = lines::put_words(b" ", out, a);
-    let d = lines::put_long(place, out, b);
-    let e = lines::put_words(b": ", out, d);
-    let f = put_said_of_any(number, out, e);
-    lines::put_words(b"\n", out, f)
+    answer.counted(b"refused ", number as u16);
+    answer.words(b" ");
+    answer.long(place);
+    answer.words(b": ");
+    say_of_any(answer, number);
+    answer.words(b"\n");
 }
 
 // A refusal in words, at the start of a lent buffer; says how many bytes it has, 0 and nothing written where they do not fit.
@@ -191,53 +190,48 @@ pub fn refused(out: &mut [u8], outcome: Outcome) -> usize
     ensures answer { result ≡ line_length out.old (refused_line outcome) }
     ensures buffer { out.new ≡ line_in out.old (refused_line outcome) }
 {
-    let mut line = [0u8; ANY_ANSWER];
-    let n = put_refused(outcome, &mut line, 0);
-    lines::put_words(&line[..n], out, 0)
+    said(out, |answer| say_refused(answer, outcome))
 }
 
 // The same of a planner's answer.
-pub fn planned(out: &mut [u8], planned: Planned) -> usize
+pub fn planned(out: &mut [u8], planned: Result<Plan, Refusal>) -> usize
     ensures part { (result ≤ length out.new) × (result ≡ length (take result out.new)) }
-    ensures answer { result ≡ line_length out.old (planned_line planned) }
-    ensures buffer { out.new ≡ line_in out.old (planned_line planned) }
+    ensures answer { result ≡ line_length out.old (planned_line (plan_answer planned)) }
+    ensures buffer { out.new ≡ line_in out.old (planned_line (plan_answer planned)) }
 {
-    let mut line = [0u8; ANY_ANSWER];
-    let n = put_planned(planned, &mut line, 0);
-    lines::put_words(&line[..n], out, 0)
+    said(out, |answer| say_planned(answer, planned))
 }
 
 // The same of the answer of a mode's judge.
-pub fn verdict(out: &mut [u8], mode: Mode, judgement: Judgement) -> usize
+pub fn verdict(out: &mut [u8], mode: Mode, judged: Result<u16, Blame>) -> usize
     ensures part { (result ≤ length out.new) × (result ≡ length (take result out.new)) }
-    ensures answer { result ≡ line_length out.old (verdict_line mode judgement) }
-    ensures buffer { out.new ≡ line_in out.old (verdict_line mode judgement) }
+    ensures answer { result ≡ line_length out.old (verdict_line mode (judge_answer judged)) }
+    ensures buffer { out.new ≡ line_in out.old (verdict_line mode (judge_answer judged)) }
 {
-    let mut line = [0u8; ANY_ANSWER];
-    let n = put_verdict(mode, judgement, &mut line, 0);
-    lines::put_words(&line[..n], out, 0)
+    said(out, |answer| say_verdict(answer, mode, judged))
 }
 
 // The same of a choice and the judge's answers on both plans.
-pub fn chosen(out: &mut [u8], choice: Choice, first: Judgement, second: Judgement) -> usize
+pub fn chosen(
+    out: &mut [u8],
+    choice: Choice,
+    first: Result<u16, Blame>,
+    second: Result<u16, Blame>,
+) -> usize
     ensures part { (result ≤ length out.new) × (result ≡ length (take result out.new)) }
-    ensures answer { result ≡ line_length out.old (choice_text choice first second) }
-    ensures buffer { out.new ≡ line_in out.old (choice_text choice first second) }
+    ensures answer { result ≡ line_length out.old (choice_text choice (judge_answer first) (judge_answer second)) }
+    ensures buffer { out.new ≡ line_in out.old (choice_text choice (judge_answer first) (judge_answer second)) }
 {
-    let mut text = [0u8; ANY_ANSWER];
-    let n = put_chosen(choice, first, second, &mut text, 0);
-    lines::put_words(&text[..n], out, 0)
+    said(out, |answer| say_chosen(answer, choice, first, second))
 }
 
 // The same of the answer of who writes a text, a sheet or a book.
-pub fn written(out: &mut [u8], outcome: Outcome, bytes: usize) -> usize
+pub fn written(out: &mut [u8], written: Result<usize, Refusal>) -> usize
     ensures part { (result ≤ length out.new) × (result ≡ length (take result out.new)) }
-    ensures answer { result ≡ line_length out.old (written_line outcome bytes) }
-    ensures buffer { out.new ≡ line_in out.old (written_line outcome bytes) }
+    ensures answer { result ≡ line_length out.old (written_said written) }
+    ensures buffer { out.new ≡ line_in out.old (written_said written) }
 {
-    let mut line = [0u8; ANY_ANSWER];
-    let n = put_written(outcome, bytes, &mut line, 0);
-    lines::put_words(&line[..n], out, 0)
+    said(out, |answer| say_written(answer, written))
 }
 
 // The same of a text that is refused.
@@ -246,7 +240,5 @@ pub fn misread(out: &mut [u8], number: u8, place: u64) -> usize
     ensures answer { result ≡ line_length out.old (misread_line number place) }
     ensures buffer { out.new ≡ line_in out.old (misread_line number place) }
 {
-    let mut line = [0u8; ANY_ANSWER];
-    let n = put_misread(number, place, &mut line, 0);
-    lines::put_words(&line[..n], out, 0)
+    said(out, |answer| say_misread(answer, number, place))
 }

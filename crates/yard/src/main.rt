@@ -2,8 +2,10 @@
 // The first word of an answer is fixed, so that a script can go by it.
 #![tactic(auto)]
 
-use files::{ANSWERED, FAILED, REFUSED, Stream};
-use meaning::{Choice, Mode, Outcome, Told};
+ghost use Rattle.std.specs.Prelude.{◌<◌};
+
+use files::{Answer, Failed, Status, Stream};
+use meaning::{Blame, Choice, Limits, Mode, Outcome, Plan, Refusal};
 use std::process::ExitCode;
 
 // The arguments; in front of them stands what the starting script knows of an output (`files`).
@@ -36,170 +38,149 @@ enum Command {
     MergedAsk,
     Help,
     Version,
-    Unknown,
+}
+
+// What is asked for, how many words stand with it at least and at most, and which of them names what is made, where one does.
+#[derive(Clone, Copy)]
+struct Form {
+    command: Command,
+    least: usize,
+    most: usize,
+    made: Option<usize>,
+}
+
+fn taking(command: Command, least: usize, most: usize, made: Option<usize>) -> Form {
+    Form {
+        command,
+        least,
+        most,
+        made,
+    }
+}
+
+// The command of a word.
+fn form_of(word: &[u8]) -> Option<Form> {
+    let form = match word {
+        b"ask" => taking(Command::Ask, 4, 5, None),
+        b"list" => taking(Command::List, 4, 4, None),
+        b"probe" => taking(Command::ByProbe, 5, 5, Some(PLAN)),
+        b"level" => taking(Command::ByLevel, 5, 5, Some(PLAN)),
+        b"judge" => taking(Command::Judge, 5, 5, None),
+        b"choose" => taking(Command::Choose, 6, 7, Some(OUT)),
+        b"graph" => taking(Command::Graph, 5, 5, Some(PLAN)),
+        b"table" => taking(Command::Table, 4, 4, None),
+        b"worst" => taking(Command::Worst, 5, 5, Some(PLAN)),
+        b"best" => taking(Command::Best, 5, 5, Some(PLAN)),
+        b"book" => taking(Command::Book, 5, 6, Some(SECOND)),
+        b"merged" => taking(Command::Merged, 5, 5, Some(PLAN)),
+        b"merged-judge" => taking(Command::MergedJudge, 5, 5, None),
+        b"merged-ask" => taking(Command::MergedAsk, 4, 5, None),
+        b"--help" => taking(Command::Help, 3, 3, None),
+        b"--version" => taking(Command::Version, 3, 3, None),
+        _ => return None,
+    };
+    Some(form)
 }
 
 // The milliseconds behind the sheet; 0 where it says no slot's length.
 fn slot_length(rt: &HostRuntime) -> u16 {
     let mut word = [0u8; 16];
-    match files::arg(rt, PLAN, &mut word) {
-        Some(n) => dealer::milliseconds(&word[..n]),
-        None => 0,
-    }
+    files::arg(rt, PLAN, &mut word).map_or(0, |n| dealer::milliseconds(&word[..n]))
 }
 
-// The command of a word.
-fn command_named(word: &[u8]) -> Command {
-    let names =
-        b"ask list probe level judge choose graph table worst best book merged merged-judge merged-ask --help --version";
-    match grammar::place_of(names, 16, word) {
-        0 => Command::Ask,
-        1 => Command::List,
-        2 => Command::ByProbe,
-        3 => Command::ByLevel,
-        4 => Command::Judge,
-        5 => Command::Choose,
-        6 => Command::Graph,
-        7 => Command::Table,
-        8 => Command::Worst,
-        9 => Command::Best,
-        10 => Command::Book,
-        11 => Command::Merged,
-        12 => Command::MergedJudge,
-        13 => Command::MergedAsk,
-        14 => Command::Help,
-        15 => Command::Version,
-        _ => Command::Unknown,
-    }
-}
-
-// Whether a sheet stands there, and behind it nothing or a slot's length.
-fn is_asked(rt: &HostRuntime, count: usize) -> bool {
-    count == 4 || count == 5 && slot_length(rt) != 0
-}
-
-// Whether as many words stand as a command wants.
-fn is_complete(rt: &HostRuntime, what: Command, count: usize) -> bool {
-    match what {
-        Command::Ask => is_asked(rt, count),
-        Command::MergedAsk => is_asked(rt, count),
-        Command::List => count == 4,
-        Command::Table => count == 4,
-        Command::Choose => count == 6 || count == 7,
-        Command::Book => count == 5 || count == 6,
-        Command::Help => count == 3,
-        Command::Version => count == 3,
-        Command::Unknown => false,
-        _ => count == 5,
-    }
-}
-
-// The command of a word, where as many words stand as it wants.
-fn command_of(rt: &HostRuntime, word: &[u8], count: usize) -> Command {
-    let what = command_named(word);
-    if is_complete(rt, what, count) {
-        what
-    } else {
-        Command::Unknown
-    }
+// Whether as many words stand as a command takes; the fifth, of those that ask how long, is a slot's length.
+fn is_complete(rt: &HostRuntime, form: &Form, count: usize) -> bool {
+    let is_timed = count == 5 && matches!(form.command, Command::Ask | Command::MergedAsk);
+    form.least <= count && count <= form.most && (!is_timed || slot_length(rt) != 0)
 }
 
 // Puts how long a reading of the sheet takes, in minutes too where it is said how long a slot is, and how long otherwise arranged; says where it ends.
-fn put_asked(rt: &HostRuntime, sheet: &[u8], told: Told, text: &mut [u8]) -> usize {
-    let outcome = told.outcome;
+fn put_asked(
+    rt: &HostRuntime,
+    sheet: &[u8],
+    told: Result<Limits, Refusal>,
+    text: &mut [u8],
+) -> usize {
     let n = dealer::asked(text, told, slot_length(rt));
-    if outcome.number != 0 {
-        return n;
+    match arrangement::spread_of(sheet) {
+        Ok(spread) => n + dealer::spread(&mut text[n..], spread.best, spread.worst),
+        Err(_) => n,
     }
-    let spread = arrangement::spread_of(sheet);
-    n + dealer::spread(&mut text[n..], spread.best, spread.worst)
 }
 
 // Says so, two lines in one write.
-fn ask(rt: &HostRuntime, sheet: &[u8]) -> u8 {
+fn ask(rt: &HostRuntime, sheet: &[u8]) -> Status {
     let told = telephone::ask(sheet);
     let mut text = [0u8; 2 * wording::ANY_ANSWER];
     let n = put_asked(rt, sheet, told, &mut text);
     let end = files::within(n, &text);
-    files::say_answer(rt, Stream::Output, &text[..end], told.outcome)
+    files::say_answer(rt, Stream::Output, &text[..end], &told)
 }
 
-// Writes a sheet that was made to its file, and says how long it is; a refusal leaves the file alone.
-fn write_sheet(rt: &HostRuntime, to: Stream, outcome: Outcome, made: &[u8]) -> u8 {
-    if outcome.number == 0 {
-        if files::write_file(rt, to, PLAN, made) != ANSWERED {
-            return FAILED;
-        }
+// Hangs the probes of the sheet otherwise: writes the sheet that is made to its file, and says how long it is; a refusal leaves the file alone.
+fn hang<F: FnOnce(&[u8], &mut [u8]) -> usize>(
+    rt: &HostRuntime,
+    to: Stream,
+    sheet: &[u8],
+    arranged: F,
+) -> Status
+    requires { F.IsAlwaysCallable arranged }
+{
+    let mut made = [0u8; arrangement::LONGEST_SHEET];
+    let n = files::within(arranged(sheet, &mut made), &made);
+    let written = sheet::read(sheet).map(|_| n);
+    if written.is_ok() {
+        files::write_file(rt, to, PLAN, &made[..n])?;
     }
     let mut line = [0u8; wording::ANY_ANSWER];
-    let m = wording::written(&mut line, outcome, made.len());
-    files::say_answer(rt, to, &line[..m], outcome)
-}
-
-fn hang_worst(rt: &HostRuntime, to: Stream, sheet: &[u8]) -> u8 {
-    let tree = sheet::read(sheet);
-    let mut made = [0u8; arrangement::LONGEST_SHEET];
-    let n = files::within(arrangement::worst_sheet(sheet, &mut made), &made);
-    write_sheet(rt, to, tree.outcome, &made[..n])
-}
-
-fn hang_best(rt: &HostRuntime, to: Stream, sheet: &[u8]) -> u8 {
-    let tree = sheet::read(sheet);
-    let mut made = [0u8; arrangement::LONGEST_SHEET];
-    let n = files::within(arrangement::best_sheet(sheet, &mut made), &made);
-    write_sheet(rt, to, tree.outcome, &made[..n])
+    let m = wording::written(&mut line, written);
+    files::say_answer(rt, to, &line[..m], &written)
 }
 
 // Lists the sheet; a refusal is said with its meaning.
-fn list(rt: &HostRuntime, sheet: &[u8]) -> u8 {
-    let tree = sheet::read(sheet);
-    let outcome = tree.outcome;
-    if outcome.number != 0 {
+fn list(rt: &HostRuntime, sheet: &[u8]) -> Status {
+    if let Err(refusal) = sheet::read(sheet) {
         let mut line = [0u8; wording::ANY_ANSWER];
-        let n = wording::refused(&mut line, outcome);
-        return files::say_answer(rt, Stream::Output, &line[..n], outcome);
+        let n = wording::refused(&mut line, Outcome::from(refusal));
+        return files::say(rt, Stream::Output, &line[..n], Ok(Answer::Refused));
     }
-    let mut text = files::text_room();
+    let mut text = files::room::<{ meaning::ANY_TEXT }>();
     let n = listing::list(sheet, &mut text);
-    files::say_answer(rt, Stream::Output, &text[..n], outcome)
+    files::say(rt, Stream::Output, &text[..n], Ok(Answer::Answered))
 }
 
-fn plan_by_probe(rt: &HostRuntime, to: Stream, sheet: &[u8]) -> u8 {
-    let mut plan = files::plan_room();
-    let planned = plan::by_probe(sheet, &mut plan);
+fn make_plan<F: FnOnce(&[u8], &mut [u8]) -> Result<Plan, Refusal>>(
+    rt: &HostRuntime,
+    to: Stream,
+    sheet: &[u8],
+    planner: F,
+) -> Status
+    requires { F.IsAlwaysCallable planner }
+{
+    let mut plan = files::room::<{ meaning::DECIDING_PLAN }>();
+    let planned = planner(sheet, &mut plan);
     plans::write_planned(rt, to, PLAN, planned, &plan)
 }
 
-fn plan_by_level(rt: &HostRuntime, to: Stream, sheet: &[u8]) -> u8 {
-    let mut plan = files::plan_room();
-    let planned = plan::by_level(sheet, &mut plan);
-    plans::write_planned(rt, to, PLAN, planned, &plan)
-}
-
-// Judges the plan in a file; its first 96,032 bytes decide every verdict.
-fn judge(rt: &HostRuntime, sheet: &[u8]) -> u8 {
-    let mut plan = files::plan_room();
-    let Some(n) = files::read_file(rt, Stream::Output, PLAN, &mut plan) else {
-        return FAILED;
-    };
-    plans::say_judgement(rt, Mode::Packets, judge::judgement(sheet, &plan[..n]))
-}
-
-// Judges the merged plan in a file; its first 65,855 bytes decide every verdict.
-fn judge_merged(rt: &HostRuntime, sheet: &[u8]) -> u8 {
-    let mut plan = plans::merged_room();
-    let Some(n) = files::read_file(rt, Stream::Output, PLAN, &mut plan) else {
-        return FAILED;
-    };
-    plans::say_judgement(rt, Mode::Merged, judge::merged_judgement(sheet, &plan[..n]))
+// Judges the plan in a file, whose first N bytes decide every verdict of its mode.
+fn judge<const N: usize, F: FnOnce(&[u8], &[u8]) -> Result<u16, Blame>>(
+    rt: &HostRuntime,
+    sheet: &[u8],
+    mode: Mode,
+    judged: F,
+) -> Status
+    requires room { N < 9223372036854775808 }
+    requires judged { F.IsAlwaysCallable judged }
+{
+    let mut plan = files::room::<N>();
+    let n = files::read_file(rt, Stream::Output, PLAN, &mut plan)?;
+    plans::say_judgement(rt, mode, judged(sheet, &plan[..n]))
 }
 
 // Makes the wake book of the plan in a file: into a file where one is named, else in words.
-fn book(rt: &HostRuntime, to: Stream, sheet: &[u8]) -> u8 {
-    let mut plan = files::plan_room();
-    let Some(n) = files::read_file(rt, to, PLAN, &mut plan) else {
-        return FAILED;
-    };
+fn book(rt: &HostRuntime, to: Stream, sheet: &[u8]) -> Status {
+    let mut plan = files::room::<{ meaning::DECIDING_PLAN }>();
+    let n = files::read_file(rt, to, PLAN, &mut plan)?;
     if files::arg_count(rt) == 6 {
         return books::write_book(rt, to, SECOND, sheet, &plan[..n]);
     }
@@ -214,138 +195,95 @@ fn say_choice(
     first: &[u8],
     second: &[u8],
     choice: Choice,
-) -> u8 {
+) -> Status {
     let on_first = judge::judgement(sheet, first);
     let on_second = judge::judgement(sheet, second);
-    let status = if let Choice::Neither = choice {
-        REFUSED
-    } else {
-        ANSWERED
+    let answer = match choice {
+        Choice::Neither => Answer::Refused,
+        _ => Answer::Answered,
     };
     let mut text = [0u8; wording::ANY_ANSWER];
     let n = wording::chosen(&mut text, choice, on_first, on_second);
-    files::say(rt, to, &text[..n], status)
+    files::say(rt, to, &text[..n], Ok(answer))
 }
 
 // Writes the plan that is handed back to a file, where one is named and a plan passes.
-fn keep_choice<'a>(
-    rt: &HostRuntime,
-    to: Stream,
-    sheet: &[u8],
-    first: &'a [u8],
-    second: &'a [u8],
-) -> u8 {
+fn keep_choice(rt: &HostRuntime, to: Stream, sheet: &[u8], first: &[u8], second: &[u8]) -> Status {
     let choice = chooser::choice(sheet, first, second);
-    if let Choice::Neither = choice {
-        return say_choice(rt, to, sheet, first, second, choice);
-    }
-    if files::arg_count(rt) == 7 {
-        let kept = chooser::choose(sheet, first, second);
-        if files::write_file(rt, to, OUT, kept) != ANSWERED {
-            return FAILED;
-        }
+    if files::arg_count(rt) == 7 && !matches!(choice, Choice::Neither) {
+        files::write_file(rt, to, OUT, chooser::choose(sheet, first, second))?;
     }
     say_choice(rt, to, sheet, first, second, choice)
 }
 
 // Chooses between the plans in two files.
-fn choose(rt: &HostRuntime, to: Stream, sheet: &[u8]) -> u8 {
-    let mut first = files::plan_room();
-    let Some(n) = files::read_file(rt, to, PLAN, &mut first) else {
-        return FAILED;
-    };
-    let mut second = files::plan_room();
-    let Some(m) = files::read_file(rt, to, SECOND, &mut second) else {
-        return FAILED;
-    };
+fn choose(rt: &HostRuntime, to: Stream, sheet: &[u8]) -> Status {
+    let mut first = files::room::<{ meaning::DECIDING_PLAN }>();
+    let n = files::read_file(rt, to, PLAN, &mut first)?;
+    let mut second = files::room::<{ meaning::DECIDING_PLAN }>();
+    let m = files::read_file(rt, to, SECOND, &mut second)?;
     keep_choice(rt, to, sheet, &first[..n], &second[..m])
 }
 
 // Whether argument i stands for standard input or output.
 fn is_dash_argument(rt: &HostRuntime, i: usize) -> bool {
     let mut word = [0u8; 2];
-    match files::arg(rt, i, &mut word) {
-        Some(n) => files::is_dash(&word[..n]),
-        None => false,
-    }
+    files::arg(rt, i, &mut word).is_some_and(|n| files::is_dash(&word[..n]))
 }
 
 // Where the words go: to standard error where what is made goes to standard output.
-fn words_to(rt: &HostRuntime, what: Command) -> Stream {
-    let is_plan = match what {
-        Command::ByProbe => is_dash_argument(rt, PLAN),
-        Command::ByLevel => is_dash_argument(rt, PLAN),
-        Command::Merged => is_dash_argument(rt, PLAN),
-        Command::Graph => is_dash_argument(rt, PLAN),
-        Command::Worst => is_dash_argument(rt, PLAN),
-        Command::Best => is_dash_argument(rt, PLAN),
-        Command::Choose => is_dash_argument(rt, OUT),
-        Command::Book => is_dash_argument(rt, SECOND),
-        _ => false,
-    };
-    if is_plan {
-        Stream::Errors
-    } else {
-        Stream::Output
+fn words_to(rt: &HostRuntime, form: &Form) -> Stream {
+    match form.made {
+        Some(i) if is_dash_argument(rt, i) => Stream::Errors,
+        _ => Stream::Output,
     }
 }
 
 // Whether more than one file is to be standard input or output.
 fn is_dash_twice(rt: &HostRuntime) -> bool {
-    let count = files::arg_count(rt);
-    let mut is_once = false;
-    let mut i = SHEET;
-    while i < count {
-        if is_dash_argument(rt, i) {
-            if is_once {
-                return true;
-            }
-            is_once = true;
-        }
-        i += 1;
-    }
-    false
+    let dashes = (SHEET..files::arg_count(rt)).filter(|i| is_dash_argument(rt, *i));
+    dashes.count() > 1
 }
 
 // What is asked for, of a sheet.
-fn answer_on(rt: &HostRuntime, what: Command, to: Stream, sheet: &[u8]) -> u8 {
+fn answer_on(rt: &HostRuntime, what: Command, to: Stream, sheet: &[u8]) -> Status {
     match what {
         Command::Ask => ask(rt, sheet),
         Command::List => list(rt, sheet),
-        Command::ByProbe => plan_by_probe(rt, to, sheet),
-        Command::ByLevel => plan_by_level(rt, to, sheet),
-        Command::Judge => judge(rt, sheet),
+        Command::ByProbe => make_plan(rt, to, sheet, plan::by_probe),
+        Command::ByLevel => make_plan(rt, to, sheet, plan::by_level),
+        Command::Judge => judge::<{ meaning::DECIDING_PLAN }, _>(
+            rt,
+            sheet,
+            Mode::Packets,
+            judge::judgement,
+        ),
         Command::Choose => choose(rt, to, sheet),
         Command::Graph => texts::write_graph(rt, to, PLAN, sheet),
-        Command::Worst => hang_worst(rt, to, sheet),
-        Command::Best => hang_best(rt, to, sheet),
+        Command::Worst => hang(rt, to, sheet, arrangement::worst_sheet),
+        Command::Best => hang(rt, to, sheet, arrangement::best_sheet),
         Command::Book => book(rt, to, sheet),
         Command::Merged => plans::write_merged(rt, to, PLAN, sheet),
-        Command::MergedJudge => judge_merged(rt, sheet),
+        Command::MergedJudge => judge::<{ meaning::DECIDING_MERGED }, _>(
+            rt,
+            sheet,
+            Mode::Merged,
+            judge::merged_judgement,
+        ),
         Command::MergedAsk => plans::say_merged_asked(rt, sheet, slot_length(rt)),
-        _ => FAILED,
+        Command::Table | Command::Help | Command::Version => Err(Failed),
     }
 }
 
 // The same of the sheet in its file.
-fn answer(rt: &HostRuntime, what: Command) -> u8 {
-    let to = words_to(rt, what);
+fn answer(rt: &HostRuntime, form: &Form) -> Status {
+    let to = words_to(rt, form);
     let mut bytes = [0u8; meaning::DECIDING_SHEET];
-    let Some(n) = files::read_file(rt, to, SHEET, &mut bytes) else {
-        return FAILED;
-    };
-    answer_on(rt, what, to, &bytes[..n])
+    let n = files::read_file(rt, to, SHEET, &mut bytes)?;
+    answer_on(rt, form.command, to, &bytes[..n])
 }
 
-// A text is judged by itself, and everything else by a sheet.
-fn answer_or_show(rt: &HostRuntime, what: Command) -> u8 {
-    if let Command::Table = what {
-        return texts::show_table(rt, SHEET);
-    }
-    answer(rt, what)
-}
-
-fn say_usage(rt: &HostRuntime, to: Stream, status: u8) -> u8 {
+fn say_usage(rt: &HostRuntime, to: Stream, status: Status) -> Status {
     files::say(
         rt,
         to,
@@ -369,27 +307,28 @@ fn say_usage(rt: &HostRuntime, to: Stream, status: u8) -> u8 {
     )
 }
 
-// What the first word asks for.
-fn asked_for(rt: &HostRuntime) -> Command {
+// What the first word asks for, where as many words stand as it takes.
+fn asked_for(rt: &HostRuntime) -> Option<Form> {
     let mut word = [0u8; 16];
-    match files::arg(rt, COMMAND, &mut word) {
-        Some(n) => command_of(rt, &word[..n], files::arg_count(rt)),
-        None => Command::Unknown,
+    let n = files::arg(rt, COMMAND, &mut word)?;
+    let form = form_of(&word[..n])?;
+    if is_complete(rt, &form, files::arg_count(rt)) {
+        return Some(form);
     }
+    None
 }
 
-// The exit status of what is asked for.
-fn run(rt: &HostRuntime) -> u8 {
-    match asked_for(rt) {
-        Command::Help => say_usage(rt, Stream::Output, ANSWERED),
-        Command::Version => files::say(rt, Stream::Output, b"yard 3.2\n", ANSWERED),
-        Command::Unknown => say_usage(rt, Stream::Errors, FAILED),
-        what => {
-            if is_dash_twice(rt) {
-                return say_usage(rt, Stream::Errors, FAILED);
-            }
-            answer_or_show(rt, what)
-        }
+// The exit status of what is asked for; a text is judged by itself, and everything else by a sheet.
+fn run(rt: &HostRuntime) -> Status {
+    let Some(form) = asked_for(rt) else {
+        return say_usage(rt, Stream::Errors, Err(Failed));
+    };
+    match form.command {
+        Command::Help => say_usage(rt, Stream::Output, Ok(Answer::Answered)),
+        Command::Version => files::say(rt, Stream::Output, b"yard 3.2\n", Ok(Answer::Answered)),
+        _ if is_dash_twice(rt) => say_usage(rt, Stream::Errors, Err(Failed)),
+        Command::Table => texts::show_table(rt, SHEET),
+        _ => answer(rt, &form),
     }
 }
 

@@ -1,9 +1,6 @@
--- `books::put_lines` ends, and stays within its book and its text, whatever the book's counts say: the measure is the probes that are left.
-use Rattle.std.proofs.Common.{length, ◌-◌, ◌≡◌}
+-- `books::put_lines` stays within its book and its text, whatever the book's counts say: what is written never passes the text's end.
+use Rattle.std.proofs.Common.{length, ◌≡◌, ◌≤◌}
 use Rattle.books.proofs.put_lines.Given as goal
 
-abbrev pub invariant-loop-k : goal.invariant-loop-k
-invariant-loop-k l = length l.text ≡ length l.initial.text
-
-abbrev pub decreases-loop-k : goal.decreases-loop-k
-decreases-loop-k l = 63 - l.k
+abbrev pub invariant-loop-probe : goal.invariant-loop-probe
+invariant-loop-probe l = (length l.text ≡ length l.initial.text) × (l.end ≤ length l.text)

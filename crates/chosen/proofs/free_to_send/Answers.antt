@@ -1,17 +1,15 @@
--- `chosen::free_to_send` meets its contract: before place i the flags are set.
-use mathlib.Core.Path.{refl}
-use Rattle.laws.proofs.Lists.{becoming-start, becoming-next, becoming-whole}
+-- `chosen::free_to_send` meets its contract: what the closure gives at each place is whether that node is to send.
+use mathlib.Core.Bool.{false, not, ◌&&◌, ◌||◌}
+use Prim.Native.Nat.{ℕ}
+use borrow.Author.Rules.{rules}
+use borrow.Author.Tests.{tests}
+use lib.ListN.{get_or}
+use Rattle.meaning.specs.Rounds.{holds}
+use Rattle.chosen.proofs.Chains.{made}
 use Rattle.chosen.proofs.free_to_send.Goals as goal
-
-pub loop-i-init : goal.loop-i-init
-loop-i-init c =
-    becoming-start 65 _ _ refl
-
-pub loop-i-preserved : goal.loop-i-preserved
-loop-i-preserved c =
-    let l = c.loop-i in
-    becoming-next 65 l.i _ _ l.free _ l.invariant c.loop-i-test.true refl
 
 pub returns : goal.returns
 returns c =
-    becoming-whole 65 _ _ _ c.loop-i.invariant c.loop-i-test.false
+    let a = c.args in
+    made _ (λ (v : ℕ). get_or a.owners.now v false || holds a.held.now v && not (get_or a.blocked.now v false)) _ (λ i y q k. search (rules, tests)) 65 _ false
+    c.from_fn.ensures.items

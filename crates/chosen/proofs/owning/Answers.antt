@@ -1,19 +1,16 @@
--- `chosen::owning` meets its contract: before place i the flags are set.
-use mathlib.Core.Path.{refl}
-use Rattle.meaning.specs.Rounds.{owners_by_probe}
-use Rattle.laws.proofs.Lists.{becoming-start, becoming-next, becoming-whole}
+-- `chosen::owning` meets its contract: what the closure gives at each place is whether that node owns the slot.
+use mathlib.Core.Bool.{false, ◌&&◌}
+use Prim.Native.Nat.{ℕ}
+use borrow.Author.Rules.{rules}
+use borrow.Author.Tests.{tests}
+use lib.Dec.{eqb}
+use lib.ListN.{get_or}
+use Rattle.meaning.specs.Rounds.{holds, owners_by_probe}
+use Rattle.chosen.proofs.Chains.{made}
 use Rattle.chosen.proofs.owning.Goals as goal
-
-pub loop-i-init : goal.loop-i-init
-loop-i-init c =
-    becoming-start 65 _ _ refl
-
-pub loop-i-preserved : goal.loop-i-preserved
-loop-i-preserved c =
-    let l = c.loop-i in
-    becoming-next 65 l.i _ _ l.flags _ l.invariant c.loop-i-test.true refl
 
 pub returns : goal.returns
 unfolding owners_by_probe
 returns c =
-    becoming-whole 65 _ _ _ c.loop-i.invariant c.loop-i-test.false
+    made _ (λ (v : ℕ). eqb (get_or c.args.own.now v 0) c.args.s.0 && holds c.args.held.now v) _ (λ i y q k. search (rules, tests)) 65 _ false
+    c.from_fn.ensures.items

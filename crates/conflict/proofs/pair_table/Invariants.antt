@@ -1,12 +1,8 @@
 -- `conflict::pair_table` meets its contract. The invariant: the table is made of the records passed.
-use Prim.Native.Nat.{◌≤◌, ◌-◌}
-use mathlib.Core.Path.{◌≡◌}
+use Rattle.std.proofs.Common.{◌≡◌}
 use Rattle.meaning.specs.Sheet.{interfere}
 use Rattle.conflict.specs.Marks.{rows_of}
 use Rattle.conflict.proofs.pair_table.Given as goal
 
 abbrev pub invariant-loop-k : goal.invariant-loop-k
-invariant-loop-k l = (l.k ≤ l.q) × (l.t ≡ rows_of 256 (λ b y. interfere l.records l.k y b))
-
-abbrev pub decreases-loop-k : goal.decreases-loop-k
-decreases-loop-k l = l.q - l.k
+invariant-loop-k l = l.t ≡ rows_of 256 (λ b y. interfere l.records l.k y b)

@@ -1,21 +1,8 @@
--- `conflict::probes` meets its contract. The invariant: the list is filled as far as the loop has come.
-use mathlib.Core.Path.{◌≡◌, refl}
-use native.Mathlib.Omega.{arith}
-use lib.ListN.{length, length-set}
-use Rattle.meaning.specs.Words.{tab}
-use Rattle.laws.proofs.Turns.{tab-next}
+-- `conflict::probes` meets its contract: each call answers with the number of its node.
+use Rattle.std.proofs.Common.{rules}
+use Rattle.laws.proofs.Made.{made_tab}
+use Rattle.conflict.specs.Heard.{probe_at}
 use Rattle.conflict.proofs.probes.Goals as goal
 
-pub loop-v-init : goal.loop-v-init
-unfolding tab
-loop-v-init c =
-    (omega arith, refl, refl)
-
-pub loop-v-preserved : goal.loop-v-preserved
-loop-v-preserved c =
-    let h = c.loop-v in
-    let long : length h.out ≡ 65 = h.invariant.1 in (
-      omega arith,
-      simp length-set (omega arith),
-      tab-next h.out h.v _ c.probe_at.result (omega arith) h.invariant.2 c.probe_at.ensures,
-    )
+pub returns : goal.returns
+returns c = made_tab _ _ 65 (probe_at c.args.p) (λ i y after low k. search rules) 0 _ c.from_fn.ensures.items

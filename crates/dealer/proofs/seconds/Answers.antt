@@ -11,15 +11,15 @@ product : (slots slot ms : ℕ) → slots ≤ 65535 → slot ≡ min ms longest_
 product slots slot ms few is = let short : slot ≤ 60000 = omega (arith, is) in mul-le-mul few short
 
 pub overflow_mul-result : goal.overflow_mul-result
-overflow_mul-result c = record { fits = omega (arith, product c.args.slots _ _ (omega arith) c.at_most_a_minute-slot.ensures) }
+overflow_mul-result c = record { fits = omega (arith, product c.args.slots _ _ (omega arith) c.min-slot.ensures) }
 
 pub overflow_add-result : goal.overflow_add-result
-overflow_add-result c = record { fits = omega (arith, product c.args.slots _ _ (omega arith) c.at_most_a_minute-slot.ensures) }
+overflow_add-result c = record { fits = omega (arith, product c.args.slots _ _ (omega arith) c.min-slot.ensures) }
 
 pub returns : goal.returns
 unfolding seconds_of
 returns c =
     record {
-      count = ap (λ (slot : ℕ). (c.args.slots * slot + c.args.rounding) / 1000) c.at_most_a_minute-slot.ensures;
-      few = omega (arith, product c.args.slots _ _ (omega arith) c.at_most_a_minute-slot.ensures);
+      count = ap (λ (slot : ℕ). (c.args.slots * slot + c.args.rounding) / 1000) c.min-slot.ensures;
+      few = omega (arith, product c.args.slots _ _ (omega arith) c.min-slot.ensures);
     }

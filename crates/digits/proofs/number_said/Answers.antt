@@ -1,19 +1,9 @@
--- `digits::number_said` meets its contract: byte by byte, and a number that is capped in between says the same.
-use Rattle.digits.proofs.Digits.{reading-start, reading-next, reading-whole}
-use native.Mathlib.Omega.{arith}
+-- `digits::number_said` meets its contract: the search finds what `fold` answers, and a number that is capped in between says the same.
+use Rattle.std.proofs.Common.{◌≡◌, ◌∙◌, fold, rules}
+use Rattle.digits.proofs.Digits.{with_digit, said-folded}
 use Rattle.digits.proofs.number_said.Goals as goal
-
-pub loop-i-init : goal.loop-i-init
-loop-i-init c =
-    (omega arith, reading-start c.args.word.now)
-
-pub loop-i-preserved : goal.loop-i-preserved
-loop-i-preserved c =
-    let turn = c.loop-i in (
-      omega arith,
-      reading-next c.args.word.now turn.i turn.before turn.invariant.1 (omega arith) c.with_digit-before.result c.with_digit-before.ensures,
-    )
 
 pub returns : goal.returns
 returns c =
-    reading-whole c.args.word.now c.loop-i.i c.loop-i.before c.loop-i.invariant.1 (omega arith)
+    let folded : c.fold.result ≡ fold with_digit 0 c.args.word.now = search rules in
+    folded ∙ said-folded c.args.word.now

@@ -1,13 +1,9 @@
--- `draw::put_edges` meets its contract. The invariant: the rows before x are put. The measure is how many rows are left.
+-- `draw::put_edges` meets its contract. The invariant: the rows before x are put.
 use mathlib.Core.Path.{◌≡◌}
-use Prim.Native.Nat.{◌-◌, ◌≤◌}
 use lib.ListN.{length}
 use Rattle.lines.specs.Fits.{Fits}
 use Rattle.graph.specs.Drawing.{texts, row_text}
 use Rattle.draw.proofs.put_edges.Given as goal
 
 abbrev pub invariant-loop-x : goal.invariant-loop-x
-invariant-loop-x l = (l.x ≤ 65) × (length l.out ≡ length l.initial.out) × Fits l.initial.out l.at (texts l.x (row_text l.table)) l.out l.end
-
-abbrev pub decreases-loop-x : goal.decreases-loop-x
-decreases-loop-x l = 65 - l.x
+invariant-loop-x l = (length l.out ≡ length l.initial.out) × Fits l.initial.out l.at (texts l.x (row_text l.table)) l.out l.end

@@ -1,4 +1,4 @@
--- `draw::put_row` meets its contract. The invariant: what stands before place y of the row is put. The measure is what is left of the row.
+-- `draw::put_row` meets its contract. The invariant: what stands before place y of the row is put.
 use mathlib.Core.Path.{◌≡◌, refl, ap₂}
 use mathlib.Core.Bool.{cond, ◌&&◌}
 use mathlib.Core.List.{List, []}
@@ -24,16 +24,16 @@ row_next table x y a b smaller larger before edge =
 
 pub loop-y-init : goal.loop-y-init
 loop-y-init c =
-    (omega arith, refl, c.vertex-a.ensures, texts-start _ _ _)
+    (refl, c.vertex-a.ensures, texts-start _ _ _)
 
 pub loop-y-preserved : goal.loop-y-preserved
 loop-y-preserved c =
     let turn = c.loop-y in
-    let next = row_next c.args.table.now c.args.x turn.y _ _ turn.invariant.2 c.vertex.ensures turn.invariant.3 c.put_edge-end.ensures in
-    (omega arith, search rules, turn.invariant.2, next)
+    let next = row_next c.args.table.now c.args.x turn.y _ _ turn.invariant.1 c.vertex.ensures turn.invariant.2 c.put_edge-end.ensures in
+    (search rules, turn.invariant.1, next)
 
 pub returns : goal.returns
 unfolding row_text
 returns c =
     let done = c.loop-y in
-    texts-all _ (omega arith) done.invariant.3
+    texts-all _ (omega arith) done.invariant.2

@@ -11,17 +11,17 @@ use Rattle.gateway.proofs.word.Goals as goal
 
 pub loop-k-init : goal.loop-k-init
 unfolding sum
-loop-k-init c = (omega arith, refl)
+loop-k-init c = refl
 
 pub overflow_add-w : goal.overflow_add-w
 overflow_add-w c =
-    record { fits = next_fits c.loop-k.k (λ j. get_or c.args.row.now (j + 1) false) _ _ c.loop-k.invariant.1 c.bit_if-w.ensures (omega arith) }
+    record { fits = next_fits c.loop-k.k (λ j. get_or c.args.row.now (j + 1) false) _ _ c.loop-k.invariant c.bit_if-w.ensures (omega arith) }
 
 pub loop-k-preserved : goal.loop-k-preserved
-loop-k-preserved c = (omega arith, bits-next c.loop-k.k (λ j. get_or c.args.row.now (j + 1) false) _ _ c.loop-k.invariant.1 c.bit_if-w.ensures)
+loop-k-preserved c = (bits-next c.loop-k.k (λ j. get_or c.args.row.now (j + 1) false) _ _ c.loop-k.invariant c.bit_if-w.ensures)
 
 pub returns : goal.returns
 unfolding word
 returns c =
     let full : c.loop-k.k ≡ 64 = omega arith in
-    rw full at c.loop-k.invariant.1
+    rw full at c.loop-k.invariant

@@ -1,13 +1,10 @@
 -- `gateway::word`: the word has the bits before k.
 use mathlib.Core.Path.{◌≡◌}
 use mathlib.Core.Bool.{false}
-use Prim.Native.Nat.{◌≤◌, ◌+◌, ◌-◌}
+use Prim.Native.Nat.{◌+◌}
 use lib.ListN.{get_or}
 use Rattle.gateway.proofs.Bits.{bits}
 use Rattle.gateway.proofs.word.Given as goal
 
 abbrev pub invariant-loop-k : goal.invariant-loop-k
-invariant-loop-k l = (l.k ≤ 64) × (l.w ≡ bits l.k (λ j. get_or l.row (j + 1) false))
-
-abbrev pub decreases-loop-k : goal.decreases-loop-k
-decreases-loop-k l = 64 - l.k
+invariant-loop-k l = l.w ≡ bits l.k (λ j. get_or l.row (j + 1) false)

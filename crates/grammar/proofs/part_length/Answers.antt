@@ -1,20 +1,13 @@
--- `grammar::part_length` meets its contract: byte by byte, up to the first mark or the end.
-use Rattle.grammar.proofs.Scans.{at_mark, passed-next, passed-whole}
-use native.Mathlib.Omega.{arith}
+-- `grammar::part_length` meets its contract: the library's law of a first index, with what a mark and any other byte do to the length.
+use Rattle.std.proofs.Common.{◌≡◌, ◌≢◌, ℕ, List, length, sym, ◌∙◌, tests, rules}
+use Rattle.std.proofs.lemmas.Iterator.{YieldsList-from_slice, IsFirst-from_position, index_from_first}
+use Rattle.graph.specs.Part.{part}
+use Rattle.grammar.proofs.Words.{nothing, mark-ends, other-passes}
 use Rattle.grammar.proofs.part_length.Goals as goal
-
-pub loop-i-init : goal.loop-i-init
-loop-i-init c =
-    (omega arith, omega arith)
-
-pub returns-then-bytes-i : goal.returns-then-bytes-i
-returns-then-bytes-i c =
-    at_mark c.args.mark c.args.bytes.now c.loop-i.i c.loop-i.invariant.1 (omega arith) c.if-bytes-i.true
-
-pub loop-i-preserved : goal.loop-i-preserved
-loop-i-preserved c =
-    (omega arith, passed-next c.args.mark c.args.bytes.now c.loop-i.i c.loop-i.invariant.1 (omega arith) c.if-bytes-i.false)
 
 pub returns : goal.returns
 returns c =
-    passed-whole c.args.mark c.args.bytes.now c.loop-i.i c.loop-i.invariant.1 (omega arith)
+    let mark = c.args.mark in
+    let first = IsFirst-from_position _ _ _ (λ (byte : ℕ). byte ≡ mark) (λ (byte : ℕ). byte ≢ mark) c.position.ensures.ran (YieldsList-from_slice c.args.bytes.now cc) (λ x q k. search (rules, tests)) (λ x q k. search (rules, tests)) in
+    let long = index_from_first (λ (u : List ℕ). length (part mark 0 u)) (λ (byte : ℕ). byte ≡ mark) (λ (byte : ℕ). byte ≢ mark) (nothing mark) (mark-ends mark) (other-passes mark) c.args.bytes.now _ first in
+    c.unwrap_or.ensures ∙ sym long

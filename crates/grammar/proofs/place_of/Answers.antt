@@ -1,31 +1,25 @@
--- `grammar::place_of` meets its contract: none of the words before place k is these bytes, and there is only one first that is.
-use mathlib.Core.Path.{◌≡◌, refl, sym, ap₂, ◌∙◌}
-use mathlib.Core.Bool.{Bool, true, false, ◌||◌}
-use Prim.Native.Nat.{ℕ, ◌≤◌, ◌<◌}
-use native.Mathlib.Omega.{arith}
-use Rattle.meaning.specs.Words.{some, least}
-use Rattle.laws.proofs.Turns.{some_one}
+-- `grammar::place_of` meets its contract: none of the words before the one that `find` gives is these bytes, and there is only one first that is.
+use Rattle.std.proofs.Common.{◌≡◌, ◌∙◌, Bool, true, false, ℕ, ◌≤◌, ◌<◌, Option, None, Some, arith, rules, tests}
+use Rattle.std.specs.Option.{MatchOption, unwrap_or}
+use Rattle.std.proofs.lemmas.Iterator.{first_from_Range}
+use Rattle.meaning.specs.Words.{least}
+use Rattle.laws.proofs.Turns.{none-some}
 use Rattle.laws.proofs.First.{least_first, first-only}
+use Rattle.graph.specs.Part.{space, part}
+use Rattle.graph.specs.Lines.{same}
 use Rattle.grammar.proofs.place_of.Goals as goal
 
--- so far none is, and the next is or there is no next
-found : (test : ℕ → Bool) (n k : ℕ) → (k ≤ n) × (some k test ≡ false) → (k < n → test k ≡ true) → k ≡ least n test
-found test n k so hit = first-only test n k (least n test) (record { within = so.0; none = so.1; passes = hit }) (least_first n test)
-
-pub loop-k-init : goal.loop-k-init
-unfolding some
-loop-k-init c =
-    (omega arith, refl)
-
-pub returns-then-says : goal.returns-then-says
-returns-then-says c =
-    found _ _ _ c.loop-k.invariant (λ _. sym c.says.ensures ∙ c.if-says.true)
-
-pub loop-k-preserved : goal.loop-k-preserved
-loop-k-preserved c =
-    let l = c.loop-k in
-    (omega arith, some_one l.k _ ∙ ap₂ ◌||◌ l.invariant.1 (sym c.says.ensures ∙ c.if-says.false))
+-- none below n passes, or i does and none below it
+found : (test : ℕ → Bool) (n : ℕ) (r : Option ℕ)
+    → MatchOption r ((k : ℕ) → 0 ≤ k → k < n → test k ≡ false) (λ i. (0 ≤ i) × (i < n) × (test i ≡ true) × ((k : ℕ) → 0 ≤ k → k < i → test k ≡ false))
+    → unwrap_or r n ≡ least n test
+found test n None none =
+    first-only test n n (least n test) (record { within = omega arith; none = none-some n test (λ k. none k (omega arith)); passes = λ h. absurd (omega arith) }) (least_first n test)
+found test n (Some i) is =
+    first-only test n i (least n test) (record { within = omega (arith, is.1); none = none-some i test (λ k. is.3 k (omega arith)); passes = λ _. is.2 }) (least_first n test)
 
 pub returns : goal.returns
 returns c =
-    found _ _ _ c.loop-k.invariant (λ more. absurd (omega arith))
+    let is : ℕ → Bool = λ k. same (part space k c.args.line.now) c.args.bytes.now in
+    let first = first_from_Range _ _ _ _ (λ k. is k ≡ true) (λ k. is k ≡ false) c.find.ensures.ran (λ x q k. search (rules, tests)) (λ x q k. search (rules, tests)) in
+    c.unwrap_or.ensures ∙ found is c.args.many c.find.result first

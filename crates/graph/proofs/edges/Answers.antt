@@ -1,4 +1,4 @@
--- `graph::edges` meets its contract. The loop's invariant: the edges of the rows before x are counted. The measure is what is left of the table.
+-- `graph::edges` meets its contract. The loop's invariant: the edges of the rows before x are counted.
 use mathlib.Core.Path.{◌≡◌, refl, sym, ap₂, ◌∙◌}
 use Prim.Native.Nat.{◌+◌}
 use Rattle.meaning.specs.Words.{sum}
@@ -9,17 +9,14 @@ use Rattle.graph.proofs.edges.Goals as goal
 
 pub loop-x-init : goal.loop-x-init
 unfolding sum
-loop-x-init c =
-    (omega arith, omega arith, refl)
+loop-x-init c = (omega arith, refl)
 
 pub loop-x-preserved : goal.loop-x-preserved
 loop-x-preserved c =
-    let turn = c.loop-x in
-    (omega arith, omega arith, ap₂ ◌+◌ turn.invariant.2 c.edges_of-n.ensures.count ∙ sym (sum_one _ _))
+    (omega arith, ap₂ ◌+◌ c.loop-x.invariant.1 c.edges_of-n.ensures.count ∙ sym (sum_one _ _))
 
 pub returns : goal.returns
 unfolding edges
 returns c =
-    let done = c.loop-x in
-    let full : done.x ≡ 65 = omega arith in
-    rw full at done.invariant.2
+    let full : c.loop-x.x ≡ 65 = omega arith in
+    rw full at c.loop-x.invariant.1

@@ -10,12 +10,12 @@ put_text-next-requires c =
     let a = c.args in
     omega (arith, c.requires, length-append a.words.now (decimal 5 a.n))
 
-pub put_digits-requires : goal.put_digits-requires
-put_digits-requires c =
+pub put_number-requires : goal.put_number-requires
+put_number-requires c =
     let start = c in
     let put = c.put_text-next.ensures in
     omega (arith, start.requires, length-append start.args.words.now (decimal 5 start.args.n), put.ends, put-long put)
 
 pub returns : goal.returns
 returns c =
-    put-more c.put_text-next.ensures c.put_digits.ensures
+    put-more c.put_text-next.ensures c.put_number.ensures

@@ -5,10 +5,8 @@ use native.Mathlib.Omega.{arith}
 use Rattle.lines.proofs.put_sender.Goals as goal
 
 pub put_said-requires : goal.put_said-requires
-put_said-requires c =
-    omega (arith, c.requires, sender-length c.args.v.0)
+put_said-requires c = omega (arith, c.requires, sender-length c.args.v.0)
 
 pub returns : goal.returns
 unfolding text
-returns c =
-    c.put_said.ensures
+returns c = c.put_said.ensures

@@ -15,8 +15,8 @@ returns-then-not-slot_fits c =
     let untouched = line-short _ (slot_line a.number.0 a.senders.now) (slot-short _ _ _ _ c.slot_fits.ensures (ap not c.if-not-slot_fits.true)) in
     record { answer = untouched.0; buffer = untouched.1 }
 
-pub put_digits-at-requires : goal.put_digits-at-requires
-put_digits-at-requires c =
+pub put_number-at-requires : goal.put_number-at-requires
+put_number-at-requires c =
     let a = c.args in
     let room = slot-room a.number.0 a.senders.now (length a.out.now) _ c.slot_fits.ensures (ap not c.if-not-slot_fits.false) in
     omega (arith, room, slot-length a.number.0 a.senders.now)
@@ -25,14 +25,14 @@ pub put_text-colon-requires : goal.put_text-colon-requires
 put_text-colon-requires c =
     let a = c.args in
     let room = slot-room a.number.0 a.senders.now (length a.out.now) _ c.slot_fits.ensures (ap not c.if-not-slot_fits.false) in
-    let number = c.put_digits-at.ensures in
+    let number = c.put_number-at.ensures in
     omega (arith, room, slot-length a.number.0 a.senders.now, number.ends, put-long number)
 
 pub put_senders-end-requires : goal.put_senders-end-requires
 put_senders-end-requires c =
     let a = c.args in
     let room = slot-room a.number.0 a.senders.now (length a.out.now) _ c.slot_fits.ensures (ap not c.if-not-slot_fits.false) in
-    let number = c.put_digits-at.ensures in
+    let number = c.put_number-at.ensures in
     let colon = c.put_text-colon.ensures in
     omega (arith, room, slot-length a.number.0 a.senders.now, number.ends, put-long number, colon.ends, put-long colon)
 
@@ -40,7 +40,7 @@ pub put_text-requires : goal.put_text-requires
 put_text-requires c =
     let a = c.args in
     let room = slot-room a.number.0 a.senders.now (length a.out.now) _ c.slot_fits.ensures (ap not c.if-not-slot_fits.false) in
-    let number = c.put_digits-at.ensures in
+    let number = c.put_number-at.ensures in
     let colon = c.put_text-colon.ensures in
     let senders = c.put_senders-end.ensures in
     omega (arith, room, slot-length a.number.0 a.senders.now, number.ends, put-long number, colon.ends, put-long colon, senders.ends, put-long senders)
@@ -48,6 +48,6 @@ put_text-requires c =
 pub returns : goal.returns
 unfolding text slot_line
 returns c =
-    let parts = put-more (put-more (put-more c.put_digits-at.ensures c.put_text-colon.ensures) c.put_senders-end.ensures) c.put_text.ensures in
+    let parts = put-more (put-more (put-more c.put_number-at.ensures c.put_text-colon.ensures) c.put_senders-end.ensures) c.put_text.ensures in
     let line = line-put (slot-room _ _ _ _ c.slot_fits.ensures (ap not c.if-not-slot_fits.false)) parts in
     record { answer = line.0; buffer = line.1 }

@@ -1,5 +1,5 @@
 -- `listing::slot_lines` meets its contract. The invariant: the lines of the first k slots stand at the start of the buffer, and those that are left
--- make the whole with them. The measure is the number of slots that are left.
+-- make the whole with them.
 use Rattle.listing.proofs.LineByLine.{listing_start, listing-long, listing-within, listing-all, listing-end, listing-next}
 use native.Mathlib.Omega.{arith}
 use borrow.Author.Rules.{rules}
@@ -44,4 +44,4 @@ shape_of-out c =
 
 pub returns : goal.returns
 returns c =
-    let all = listing-all c.loop-k.invariant c.loop-k-test.false in record { answer = all.0; buffer = all.1 }
+    let all = listing-all c.loop-k.invariant (omega arith) in record { answer = all.0; buffer = all.1 }

@@ -1,11 +1,7 @@
 -- `listing::slot_lines` meets its contract. The invariant: the lines of the first k slots stand at the start of the buffer, and those that are left
--- make the whole with them. The measure is the number of slots that are left.
-use Prim.Native.Nat.{◌-◌}
+-- make the whole with them.
 use Rattle.listing.specs.Listed.{Listing}
 use Rattle.listing.proofs.slot_lines.Given as goal
 
 abbrev pub invariant-loop-k : goal.invariant-loop-k
 invariant-loop-k l = Listing l.plan l.slots l.initial.out l.out l.place l.at l.k
-
-abbrev pub decreases-loop-k : goal.decreases-loop-k
-decreases-loop-k l = l.slots - l.k

@@ -1,12 +1,20 @@
 -- `merged::ask` meets its contract: a refusal is the planner's, and the depth that is read in the tree is the sheet's.
-use Rattle.merged.proofs.MergedAnswer.{ask-refused, ask-planned}
+use mathlib.Core.Path.{refl}
+use Rattle.std.proofs.lemmas.Result.{err_from_is_err_and}
+use Rattle.laws.proofs.Refused.{some-number, not-refused}
+use Rattle.merged.proofs.MergedAnswer.{ok, ask-refused, ask-planned}
 use Rattle.merged.proofs.ask.Goals as goal
 
-pub returns-then-outcome-ne0 : goal.returns-then-outcome-ne0
-returns-then-outcome-ne0 c =
-    ask-refused c.args.sheet.now c.merged-planned.ensures.answer c.if-outcome-ne0.true
+pub returns-in_err-plan : goal.returns-in_err-plan
+returns-in_err-plan c =
+    let e = err_from_is_err_and c.from_residual.result c.from_residual.ensures.1 in
+    rw (e.1, e.2) (ask-refused c.args.sheet.now c.in_err-plan.ensures.answer (some-number c.in_err-plan.field-0.0))
+
+-- the sheet of a plan is accepted
+pub returns-in_err-tree : goal.returns-in_err-tree
+returns-in_err-tree c = absurd (not-refused c.in_err-tree.field-0.0 c.in_err-tree.ensures (ok c.args.sheet.now c.in_ok-plan.ensures.answer refl))
 
 pub returns : goal.returns
 returns c =
-    ask-planned c.args.sheet.now c.merged-planned.ensures.answer c.if-outcome-ne0.false
-    c.read-tree.ensures c.depth-depth.ensures c.at_most-most.ensures
+    ask-planned c.args.sheet.now c.in_ok-plan.ensures.answer refl
+    c.in_ok-tree.ensures.1 c.depth-depth.ensures c.at_most-most.ensures

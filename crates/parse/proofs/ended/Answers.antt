@@ -1,19 +1,14 @@
--- `parse::ended` meets its contract: a faulty line refuses, then the end does, and what is left is accepted.
-use Rattle.parse.proofs.Ends.{line-refuses, end-refuses, accepts}
+-- `parse::ended` meets its contract: the table is cleared where a fault is answered.
+use mathlib.Core.Path.{sym, ◌∙◌}
+use Rattle.parse.proofs.Faults.{cleared, kept}
 use Rattle.parse.proofs.ended.Goals as goal
 
-pub returns-then-read-ne0 : goal.returns-then-read-ne0
-returns-then-read-ne0 c =
-    let all = line-refuses _ _ _ _ c.refused.ensures.table c.if-read-ne0.true c.refused.ensures.answer in record { answer = all.0; table = all.1 }
+pub returns-then-is_err-clause-table : goal.returns-then-is_err-clause-table
+returns-then-is_err-clause-table c =
+    let answer = c.answered-answer in
+    c.clear.ensures ∙ cleared _ answer.result (sym c.is_err.ensures.value ∙ c.if-is_err.true) answer.ensures
 
-pub returns-then-number-ne0 : goal.returns-then-number-ne0
-returns-then-number-ne0 c =
-    let all =
-    end-refuses _ _ _ _ c.refused-then-number-ne0.ensures.table _ c.end_test-number.ensures c.if-read-ne0.false c.if-number-ne0.true
-    c.refused-then-number-ne0.ensures.answer
-    in
-    record { answer = all.0; table = all.1 }
-
-pub returns : goal.returns
-returns c =
-    let all = accepts _ _ _ c.end_test-number.ensures c.if-read-ne0.false c.if-number-ne0.false in record { answer = all.0; table = all.1 }
+pub returns-else-is_err-clause-table : goal.returns-else-is_err-clause-table
+returns-else-is_err-clause-table c =
+    let answer = c.answered-answer in
+    kept _ answer.result (sym c.is_err.ensures.value ∙ c.if-is_err.false) answer.ensures

@@ -1,16 +1,9 @@
--- `parse::last_read` meets its contract: its two tests are the definition's.
-use mathlib.Core.Path.{◌∙◌}
-use Rattle.parse.proofs.Ends.{faulty-stays, ended-stays, unended}
+-- `parse::last_read` meets its contract: a fault stays as it is, and behind none its test is the definition's.
+use Rattle.std.proofs.lemmas.Result.{err_from_is_err_and}
+use Rattle.parse.proofs.Faults.{last-stays}
 use Rattle.parse.proofs.last_read.Goals as goal
 
-pub returns-then-read-ne0 : goal.returns-then-read-ne0
-returns-then-read-ne0 c =
-    faulty-stays _ _ c.if-read-ne0.true
-
-pub returns-then-behind-eq0 : goal.returns-then-behind-eq0
-returns-then-behind-eq0 c =
-    ended-stays _ _ c.if-read-ne0.false c.if-behind-eq0.true
-
-pub returns : goal.returns
-returns c =
-    c.faulty.ensures ∙ unended _ _ c.if-read-ne0.false c.if-behind-eq0.false
+pub returns-in_err-read : goal.returns-in_err-read
+returns-in_err-read c =
+    let e = err_from_is_err_and c.from_residual.result c.from_residual.ensures.1 in
+    rw (e.1, e.2, c.in_err-read.was) (last-stays _ c.args.behind.now)

@@ -1,17 +1,8 @@
--- `plan::colours_by_level` meets its contract: before place v the colours are looked up.
-use mathlib.Core.Path.{refl}
-use Rattle.laws.proofs.Lists.{becoming-start, becoming-next, becoming-whole}
+-- `plan::colours_by_level` meets its contract: each call looks the colour of a level up.
+use Rattle.std.proofs.Common.{rules}
+use lib.ListN.{get_or}
+use Rattle.laws.proofs.Made.{made_tab}
 use Rattle.plan.proofs.colours_by_level.Goals as goal
 
-pub loop-v-init : goal.loop-v-init
-loop-v-init c =
-    becoming-start 65 _ _ refl
-
-pub loop-v-preserved : goal.loop-v-preserved
-loop-v-preserved c =
-    let l = c.loop-v in
-    becoming-next 65 l.v _ _ l.own _ l.invariant c.loop-v-test.true c.number_at.ensures
-
 pub returns : goal.returns
-returns c =
-    becoming-whole 65 _ _ _ c.loop-v.invariant c.loop-v-test.false
+returns c = made_tab _ _ 65 (λ v. get_or c.args.colours (get_or c.args.levels v 0) 0) (λ i y after low k. search rules) 0 _ c.from_fn.ensures.items

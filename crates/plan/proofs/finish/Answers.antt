@@ -5,7 +5,7 @@ use Prim.Native.Nat.{ℕ, ◌≤◌}
 use lib.ListN.{length}
 use Rattle.meaning.specs.Plan.{plan_bytes, front}
 use Rattle.meaning.specs.Answer.{accepted}
-use Rattle.plan.specs.TurnByTurn.{code_way, held_by, slots_by, Filled}
+use Rattle.plan.specs.TurnByTurn.{way_on, held_by, slots_by, Filled}
 use Rattle.plan.specs.Answered.{Finished}
 use native.Mathlib.Omega.{arith}
 use Rattle.plan.proofs.finish.Goals as goal
@@ -33,5 +33,5 @@ returns c =
     let a = fill.args in
     let tree = a.tree in
     let held = held_by a.mode tree.probes tree.packets in
-    let by = code_way a.mode tree.probes tree.parents a.own a.m in
-    finished (ap (λ (n : ℕ). slots_by by a.table n held) fill.sendings_in-sendings.ensures) fill.fill-made.ensures
+    let by = way_on a.mode tree.probes tree.parents a.own a.m a.table in
+    finished (ap (λ (n : ℕ). slots_by by n held) fill.sendings_in.ensures) fill.fill-made.ensures

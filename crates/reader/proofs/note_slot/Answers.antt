@@ -1,31 +1,23 @@
--- `reader::note_slot` meets its contract. The invariant: the senders passed are noted. The measure is how many are left.
-use mathlib.Core.Path.{◌≡◌, refl}
-use lib.ListN.{length}
+-- `reader::note_slot` meets its contract. The invariant: the senders passed are noted.
+use Rattle.std.proofs.Common.{◌≡◌, length, refl, arith}
 use Rattle.meaning.specs.Words.{for_each}
 use Rattle.reader.specs.Noted.{noted_slot}
-use Rattle.reader.proofs.NotingBytes.{sender-kept, sender-next}
-use native.Mathlib.Omega.{arith}
+use Rattle.reader.proofs.NotingBytes.{sender-next}
 use Rattle.reader.proofs.note_slot.Goals as goal
 
-pub loop-i-init : goal.loop-i-init
+pub loop-sender-init : goal.loop-sender-init
 unfolding for_each
-loop-i-init c =
-    (omega arith, refl, refl)
+loop-sender-init c = refl
 
-pub loop-i-preserved : goal.loop-i-preserved
-loop-i-preserved c =
+pub loop-sender-preserved : goal.loop-sender-preserved
+loop-sender-preserved c =
     let a = c.args in
-    let turn = c.loop-i in
-    let put = c.note_sender.ensures in
-    (omega arith, sender-kept _ _ _ _ _ _ put turn.invariant.1, sender-next _ _ a.senders.now turn.i a.book.now _ _ turn.invariant.2 put)
-
-pub shape_of-book : goal.shape_of-book
-shape_of-book c =
-    c.loop-i.invariant.1
+    let turn = c.loop-sender in
+    sender-next _ _ a.senders.now turn.sender-index a.book.now _ _ turn.invariant c.note_sender.ensures
 
 pub returns : goal.returns
 unfolding noted_slot
 returns c =
-    let done = c.loop-i in
-    let full : done.i ≡ length c.args.senders.now = omega arith in
-    rw full at done.invariant.2
+    let done = c.loop-sender in
+    let full : done.sender-index ≡ length c.args.senders.now = omega arith in
+    rw full at done.invariant

@@ -1,61 +1,57 @@
--- `sheet::read` meets its contract: stage by stage, what each answered is what the meaning says; the first that gives a number decides, and where none
+-- `sheet::read` meets its contract: stage by stage, what each answered is what the meaning says; the first that refuses decides, and where none
 -- does what was read on the way is the tree.
 use mathlib.Core.Path.{◌≡◌, ◌∙◌}
 use mathlib.Core.Bool.{true}
 use native.Mathlib.Omega.{arith}
+use Rattle.std.proofs.lemmas.Result.{err_from_is_err_and}
 use Rattle.meaning.specs.Words.{tab, places}
 use Rattle.meaning.specs.Sheet.{parent_of}
 use Rattle.meaning.specs.Answer.{is_accepted, counts_test}
-use Rattle.sheet.proofs.SheetRead.{probes_answer, walks_answer, pairs_answer, no_number, probes-read, parents-read, packets-read, pairs-read}
-use Rattle.sheet.proofs.SheetRead.{walks-read, levels-read, few-probes, counts-decide, probes-decide, walks-decide, pairs_decide, tree-read}
+use Rattle.sheet.proofs.SheetRead.{probes_answer, walks_answer, no_number, probes-read, parents-read, packets-read, pairs-read}
+use Rattle.sheet.proofs.SheetRead.{walks-read, levels-read, few-probes, counts-decide, probes-decide, walks-decide, pairs-decide, tree-read}
 use Rattle.sheet.proofs.read.Goals as goal
 
-pub returns-then-counts-ne0 : goal.returns-then-counts-ne0
-returns-then-counts-ne0 c =
-    c.refused.ensures ∙ counts-decide _ _ c.counts_test-counts.ensures c.if-counts-ne0.true
+pub returns-in_err-counts_test : goal.returns-in_err-counts_test
+returns-in_err-counts_test c =
+    let e = err_from_is_err_and c.from_residual.result c.from_residual.ensures.1 in
+    rw (e.1, e.2) (counts-decide _ _ c.in_err-counts_test.ensures)
 
 -- behind the counts
-pub returns-then-tested-ne0 : goal.returns-then-tested-ne0
-returns-then-tested-ne0 c =
-    let s = c.args.sheet.now in
-    let counts : is_accepted (counts_test s) ≡ true = no_number _ _ c.counts_test-counts.ensures c.if-counts-ne0.false in
-    let tested : c.probes_test-tested.result ≡ probes_answer s =
-    c.probes_test-tested.ensures ∙ probes-read s _ _ c.number_at-probes.ensures c.probe_records-records.ensures in
-    c.refused-then-tested-ne0.ensures ∙ probes-decide s counts _ tested c.if-tested-ne0.true
+pub returns-in_err-probes_test : goal.returns-in_err-probes_test
+returns-in_err-probes_test c =
+    let e = err_from_is_err_and c.from_residual-in_err-probes_test.result c.from_residual-in_err-probes_test.ensures.1 in
+    rw (e.1, e.2)
+    (probes-decide _ (no_number c.in_ok-counts_test.ensures) _
+    (c.in_err-probes_test.ensures ∙ probes-read c.args.sheet.now _ _ c.number_at-probes.ensures c.probe_records-records.ensures))
 
 -- behind the probes
-pub walks_test-walks-requires : goal.walks_test-walks-requires
-walks_test-walks-requires c =
-    let counts : is_accepted (counts_test c.args.sheet.now) ≡ true = no_number _ _ c.counts_test-counts.ensures c.if-counts-ne0.false in
-    omega (arith, few-probes _ counts, c.number_at-probes.ensures)
+pub walks_test-requires : goal.walks_test-requires
+walks_test-requires c = omega (arith, few-probes _ (no_number c.in_ok-counts_test.ensures), c.number_at-probes.ensures)
 
-pub returns-then-walked-ne0 : goal.returns-then-walked-ne0
-returns-then-walked-ne0 c =
+pub returns-in_err-levels : goal.returns-in_err-levels
+returns-in_err-levels c =
     let s = c.args.sheet.now in
     let p = c.number_at-probes.ensures in
     let records = c.probe_records-records.ensures in
-    let counts : is_accepted (counts_test s) ≡ true = no_number _ _ c.counts_test-counts.ensures c.if-counts-ne0.false in
-    let tested : c.probes_test-tested.result ≡ probes_answer s = c.probes_test-tested.ensures ∙ probes-read s _ _ p records in
-    let probes : is_accepted (probes_answer s) ≡ true = no_number _ _ tested c.if-tested-ne0.false in
+    let counts : is_accepted (counts_test s) ≡ true = no_number c.in_ok-counts_test.ensures in
+    let probes : is_accepted (probes_answer s) ≡ true = no_number (c.in_ok-probes_test.ensures ∙ probes-read s _ _ p records) in
     let parents : c.parents-parents.result ≡ tab places (parent_of s) = c.parents-parents.ensures ∙ parents-read s _ _ p records in
-    let walked : c.walks_test-walks.result.outcome ≡ walks_answer s = walks-read s counts _ _ _ p parents c.walks_test-walks.ensures in
-    c.refused-then-walked-ne0.ensures ∙ walks-decide s counts probes _ walked c.if-walked-ne0.true
+    let e = err_from_is_err_and c.from_residual-in_err-levels.result c.from_residual-in_err-levels.ensures.1 in
+    rw (e.1, e.2) (walks-decide s counts probes _ (c.in_err-levels.ensures ∙ walks-read s counts _ _ p parents))
 
 -- behind the walks
-pub returns-then-outcome-ne0 : goal.returns-then-outcome-ne0
-returns-then-outcome-ne0 c =
+pub returns-in_err-pairs_test : goal.returns-in_err-pairs_test
+returns-in_err-pairs_test c =
     let s = c.args.sheet.now in
     let p = c.number_at-probes.ensures in
     let records = c.probe_records-records.ensures in
-    let counts : is_accepted (counts_test s) ≡ true = no_number _ _ c.counts_test-counts.ensures c.if-counts-ne0.false in
-    let tested : c.probes_test-tested.result ≡ probes_answer s = c.probes_test-tested.ensures ∙ probes-read s _ _ p records in
-    let probes : is_accepted (probes_answer s) ≡ true = no_number _ _ tested c.if-tested-ne0.false in
+    let counts : is_accepted (counts_test s) ≡ true = no_number c.in_ok-counts_test.ensures in
+    let probes : is_accepted (probes_answer s) ≡ true = no_number (c.in_ok-probes_test.ensures ∙ probes-read s _ _ p records) in
     let parents : c.parents-parents.result ≡ tab places (parent_of s) = c.parents-parents.ensures ∙ parents-read s _ _ p records in
-    let walked : c.walks_test-walks.result.outcome ≡ walks_answer s = walks-read s counts _ _ _ p parents c.walks_test-walks.ensures in
-    let walks : is_accepted (walks_answer s) ≡ true = no_number _ _ walked c.if-walked-ne0.false in
-    let paired : c.pairs_test-outcome.result ≡ pairs_answer s =
-    c.pairs_test-outcome.ensures ∙ pairs-read s _ _ _ p c.pair_count.ensures c.pair_records.ensures in
-    c.refused-then-outcome-ne0.ensures ∙ pairs_decide s counts probes walks _ paired c.if-outcome-ne0.true
+    let walks : is_accepted (walks_answer s) ≡ true = no_number (c.in_ok-levels.ensures.0 ∙ walks-read s counts _ _ p parents) in
+    let e = err_from_is_err_and c.from_residual-in_err-pairs_test.result c.from_residual-in_err-pairs_test.ensures.1 in
+    rw (e.1, e.2)
+    (c.in_err-pairs_test.ensures ∙ pairs-read s _ _ _ p c.pair_count.ensures c.pair_records.ensures ∙ pairs-decide s counts probes walks)
 
 -- behind the pairs
 pub returns : goal.returns
@@ -63,14 +59,11 @@ returns c =
     let s = c.args.sheet.now in
     let p = c.number_at-probes.ensures in
     let records = c.probe_records-records.ensures in
-    let counts : is_accepted (counts_test s) ≡ true = no_number _ _ c.counts_test-counts.ensures c.if-counts-ne0.false in
-    let tested : c.probes_test-tested.result ≡ probes_answer s = c.probes_test-tested.ensures ∙ probes-read s _ _ p records in
-    let probes : is_accepted (probes_answer s) ≡ true = no_number _ _ tested c.if-tested-ne0.false in
+    let counts : is_accepted (counts_test s) ≡ true = no_number c.in_ok-counts_test.ensures in
+    let probes : is_accepted (probes_answer s) ≡ true = no_number (c.in_ok-probes_test.ensures ∙ probes-read s _ _ p records) in
     let parents : c.parents-parents.result ≡ tab places (parent_of s) = c.parents-parents.ensures ∙ parents-read s _ _ p records in
-    let walked : c.walks_test-walks.result.outcome ≡ walks_answer s = walks-read s counts _ _ _ p parents c.walks_test-walks.ensures in
-    let walks : is_accepted (walks_answer s) ≡ true = no_number _ _ walked c.if-walked-ne0.false in
-    let paired : c.pairs_test-outcome.result ≡ pairs_answer s =
-    c.pairs_test-outcome.ensures ∙ pairs-read s _ _ _ p c.pair_count.ensures c.pair_records.ensures in
+    let walks : is_accepted (walks_answer s) ≡ true = no_number (c.in_ok-levels.ensures.0 ∙ walks-read s counts _ _ p parents) in
+    let whole = c.in_ok-pairs_test.ensures ∙ pairs-read s _ _ _ p c.pair_count.ensures c.pair_records.ensures ∙ pairs-decide s counts probes walks in
     let packets = c.packets-packets.ensures ∙ packets-read s _ _ p records in
-    let levels = levels-read s counts _ _ _ p parents c.walks_test-walks.ensures walks in
-    tree-read s counts probes walks _ paired c.if-outcome-ne0.false _ _ _ _ _ p parents packets levels c.hops-hops.ensures
+    let levels = c.in_ok-levels.ensures.1 ∙ levels-read s counts _ _ p parents in
+    (whole, tree-read s counts (no_number whole) _ _ _ _ _ p parents packets levels c.hops-hops.ensures)

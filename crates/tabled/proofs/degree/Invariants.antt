@@ -1,12 +1,9 @@
--- `tabled::degree` meets its contract. The invariant: those before place k are counted. The measure is how many vertices are left.
+-- `tabled::degree` meets its contract. The invariant: those before place k are counted.
 use mathlib.Core.Path.{◌≡◌}
-use Prim.Native.Nat.{◌≤◌, ◌-◌}
+use Prim.Native.Nat.{◌≤◌}
 use Rattle.meaning.specs.Words.{count}
 use Rattle.tabled.specs.Tabled.{joins}
 use Rattle.tabled.proofs.degree.Given as goal
 
 abbrev pub invariant-loop-k : goal.invariant-loop-k
-invariant-loop-k l = (l.k ≤ 63) × (l.n ≤ l.k) × (l.n ≡ count l.k (joins l.row))
-
-abbrev pub decreases-loop-k : goal.decreases-loop-k
-decreases-loop-k l = 63 - l.k
+invariant-loop-k l = (l.n ≤ l.k) × (l.n ≡ count l.k (joins l.row))

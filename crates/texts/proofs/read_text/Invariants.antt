@@ -1,9 +1,6 @@
--- `texts::read_text` ends, and reads within its piece: the measure is the pieces that are left.
+-- `texts::read_text` reads within its piece, which keeps its length from one reading to the next.
 use Rattle.std.proofs.Common.{◌≡◌, length}
 use Rattle.texts.proofs.read_text.Given as goal
 
-abbrev pub invariant-loop-left : goal.invariant-loop-left
-invariant-loop-left l = 65536 ≡ length l.piece
-
-abbrev pub decreases-loop-left : goal.decreases-loop-left
-decreases-loop-left l = l.left
+abbrev pub invariant-loop : goal.invariant-loop
+invariant-loop l = 65536 ≡ length l.piece

@@ -1,5 +1,5 @@
 -- `waking::wake_line` meets its contract: the parts of the line are put one behind the other, where the buffer has room for all of them.
-use mathlib.Core.Path.{subst}
+use mathlib.Core.Path.{◌≡◌, sym, ◌∙◌, subst}
 use mathlib.Core.List.{List}
 use Prim.Native.Nat.{ℕ, ◌+◌, ◌≤◌}
 use lib.ListN.{length}
@@ -7,8 +7,9 @@ use Rattle.meaning.specs.Sheet.{two_at}
 use Rattle.meaning.specs.Lister.{text}
 use Rattle.meaning.specs.Book.{list_at, wake_line}
 use Rattle.lines.proofs.Lined.{Answered, answered-short}
-use Rattle.lines.proofs.Fitting.{put_whole, put-behind}
+use Rattle.lines.proofs.Fitting.{put-behind}
 use Rattle.waking.proofs.WakeWords.{slot_of, slots-long, wake-short, wake-room, wake-answered}
+use Rattle.std.proofs.Common.{rules}
 use native.Mathlib.Omega.{arith}
 use Rattle.waking.proofs.wake_line.Goals as goal
 
@@ -63,10 +64,11 @@ returns c =
     let out = c.args.out.now in
     let room : length (line v entry c.behind_list-second.result) ≤ length out =
     wake-room _ _ _ _ _ _ _ c.digits.ensures.count c.slots_length.ensures c.slots_length-2.ensures c.if-out-need.false in
-    let to-sends = put-behind (put_whole c.put_counted-a.ensures) (put_whole c.put_words-b.ensures) in
-    let to-listens = put-behind (put-behind to-sends c.put_slots-d.ensures) (put_whole c.put_words-e.ensures) in
-    let whole = put-behind (put-behind to-listens c.put_slots-end.ensures) (put_whole c.put_words.ensures) in
-    let all = subst (λ (at : ℕ). Answered out (line v entry at) c.put_words.new.out c.put_words.result)
+    let to-sends = put-behind c.counted.ensures.said c.words.ensures.said in
+    let to-listens = put-behind (put-behind to-sends c.say_slots.ensures.said) c.words-2.ensures.said in
+    let whole = put-behind (put-behind to-listens c.say_slots-2.ensures.said) c.words-3.ensures.said in
+    let all = subst (λ (at : ℕ). Answered out (line v entry at) c.words-3.new.self.out.now c.words-3.new.self.end)
     c.behind_list-second.ensures.0
     (wake-answered _ _ _ room whole) in
-    record { part = all.0; answer = all.1.0; buffer = all.1.1 }
+    let same : c.words-3.new.self.out.now ≡ _ = search rules in
+    record { part = rw (sym same) all.0; answer = all.1.0; buffer = sym same ∙ all.1.1 }

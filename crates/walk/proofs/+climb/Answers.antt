@@ -10,10 +10,10 @@ pub returns-then-left-eq0 : goal.returns-then-left-eq0
 returns-then-left-eq0 t c = climbed-none _ _ _ c.if-node-eq1.false c.if-left-eq0.true
 
 pub overflow_add-result : goal.overflow_add-result
-overflow_add-result t c = omega (arith, climbed-most _ _ _ _ _ c.climb.ensures c.in-Arrives.is)
+overflow_add-result t c = omega (arith, climbed-most _ _ _ _ _ c.climb.ensures c.in_ok-level.was)
 
-pub returns-in-Arrives : goal.returns-in-Arrives
-returns-in-Arrives t c = climbed-on _ _ _ _ _ _ c.if-node-eq1.false c.if-left-eq0.false c.number_at-parent.ensures c.climb.ensures c.in-Arrives.is
+pub returns : goal.returns
+returns t c = climbed-on _ _ _ _ _ _ c.if-node-eq1.false c.if-left-eq0.false c.number_at-parent.ensures c.climb.ensures c.in_ok-level.was
 
-pub returns-in-Never : goal.returns-in-Never
-returns-in-Never t c = climbed-on _ _ _ _ _ _ c.if-node-eq1.false c.if-left-eq0.false c.number_at-parent.ensures c.climb.ensures c.in-Never.is
+pub returns-in_err-level : goal.returns-in_err-level
+returns-in_err-level t c = cc (climbed-on _ _ _ _ _ _ c.if-node-eq1.false c.if-left-eq0.false c.number_at-parent.ensures c.climb.ensures c.in_err-level.was)

@@ -1,13 +1,7 @@
--- `walk::hops` meets its contract. The invariant: the hops so far are the sum over the first k probes, each at most 255 times 255. The measure is
--- what is left of p.
-use mathlib.Core.Path.{◌≡◌}
-use Prim.Native.Nat.{◌+◌, ◌-◌, ◌*◌, ◌≤◌}
-use lib.ListN.{get_or}
+-- `walk::hops` meets its contract. The invariant: the hops so far are the sum over the first k probes, each at most 255 times 255.
+use Rattle.std.proofs.Common.{◌≡◌, ◌+◌, ◌*◌, ◌≤◌, get_or}
 use Rattle.meaning.specs.Words.{sum}
 use Rattle.walk.proofs.hops.Given as goal
 
 abbrev pub invariant-loop-k : goal.invariant-loop-k
-invariant-loop-k l = (l.k ≤ l.p) × (l.hops ≡ sum l.k (λ i. get_or l.packets (i + 2) 0 * get_or l.levels (i + 2) 0)) × (l.hops ≤ 65025 * l.k)
-
-abbrev pub decreases-loop-k : goal.decreases-loop-k
-decreases-loop-k l = l.p - l.k
+invariant-loop-k l = (l.hops ≡ sum l.k (λ i. get_or l.packets (i + 2) 0 * get_or l.levels (i + 2) 0)) × (l.hops ≤ 65025 * l.k)

@@ -1,17 +1,10 @@
--- `wording::misread` meets its contract: the answer is made in a line of its own, which has room for any, and copied from there as a whole.
-use Rattle.lines.proofs.OwnLine.{line-end, line-counts, answered}
+-- `wording::misread` meets its contract: the answer is said whole, since any has room.
+use Rattle.std.proofs.Common.{rules}
+use Rattle.lines.proofs.OwnLine.{said-whole}
 use Rattle.wording.proofs.AnswersLong.{misread-most}
 use Rattle.wording.proofs.misread.Goals as goal
 
-pub slice_bounds-line-end : goal.slice_bounds-line-end
-slice_bounds-line-end c =
-    line-end (misread-most _ _) c.put_misread-n.ensures
-
-pub slice_bounds-put_words-end : goal.slice_bounds-put_words-end
-slice_bounds-put_words-end c =
-    line-counts (misread-most _ _) c.put_misread-n.ensures
-
 pub returns : goal.returns
 returns c =
-    let all = answered (misread-most _ _) c.put_misread-n.ensures c.put_words.ensures in
-    record { part = all.0; answer = all.1.0; buffer = all.1.1 }
+    let all = said-whole (misread-most _ _) (λ p q met. search rules) c.said.ensures in
+    record { part = all.part; answer = all.answer; buffer = all.buffer }

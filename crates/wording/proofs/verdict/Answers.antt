@@ -1,17 +1,10 @@
--- `wording::verdict` meets its contract: the answer is made in a line of its own, which has room for any, and copied from there as a whole.
-use Rattle.lines.proofs.OwnLine.{line-end, line-counts, answered}
+-- `wording::verdict` meets its contract: the answer is said whole, since any has room.
+use Rattle.std.proofs.Common.{rules}
+use Rattle.lines.proofs.OwnLine.{said-whole}
 use Rattle.wording.proofs.AnswersLong.{verdict-most}
 use Rattle.wording.proofs.verdict.Goals as goal
 
-pub slice_bounds-line-end : goal.slice_bounds-line-end
-slice_bounds-line-end c =
-    line-end (verdict-most _ _) c.put_verdict-n.ensures
-
-pub slice_bounds-put_words-end : goal.slice_bounds-put_words-end
-slice_bounds-put_words-end c =
-    line-counts (verdict-most _ _) c.put_verdict-n.ensures
-
 pub returns : goal.returns
 returns c =
-    let all = answered (verdict-most _ _) c.put_verdict-n.ensures c.put_words.ensures in
-    record { part = all.0; answer = all.1.0; buffer = all.1.1 }
+    let all = said-whole (verdict-most _ _) (λ p q met. search rules) c.said.ensures in
+    record { part = all.part; answer = all.answer; buffer = all.buffer }

@@ -1,2 +1,0 @@
--- Definitions of what is found on the way.
-pub mod Weight

@@ -1,0 +1,2 @@
+-- Words of the contracts of private functions.
+pub mod Copied
