@@ -7,7 +7,7 @@ use Prim.Native.Nat.{ℕ, ◌+◌, ◌-◌, ◌*◌, min}
 use native.Mathlib.Omega.{arith}
 use lib.ListN.{length}
 use Rattle.meaning.specs.declared.Mode.TheVariants.{Packets}
-use Rattle.meaning.specs.Returned.{Verdict}
+use Rattle.meaning.specs.declared.Verdict.{Verdict}
 use Rattle.meaning.specs.Words.{for_each, sum_probes}
 use Rattle.meaning.specs.Sheet.{probe_count, packets_of, hops, all_packets}
 use Rattle.meaning.specs.Plan.{two_bytes, plan_bytes}

@@ -10,10 +10,10 @@ use lib.Dec.{ltb}
 use lib.ListN.{length, get_or}
 use Rattle.meaning.specs.declared.Mode.TheVariants.{Packets}
 use Rattle.meaning.specs.Returned.{Booked}
-use Rattle.meaning.specs.Returned.{Judgement}
+use Rattle.meaning.specs.declared.Judgement.{Judgement}
 use Rattle.meaning.specs.declared.Names.{Names}
 use Rattle.meaning.specs.declared.Outcome.{Outcome}
-use Rattle.meaning.specs.Returned.{Verdict}
+use Rattle.meaning.specs.declared.Verdict.{Verdict}
 use Rattle.meaning.specs.Words.{places, tab, by_node}
 use Rattle.meaning.specs.Yard.{is_probe}
 use Rattle.meaning.specs.Sheet.{two_at, probe_count, parent_of, packets_of}

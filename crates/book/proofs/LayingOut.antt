@@ -1,11 +1,12 @@
 -- Laws of laying out a book: a list by node is filled probe by probe, and the places by sender two at a time.
 use mathlib.Core.Path.{◌≡◌, refl, sym, ap, ap₂, ◌∙◌, subst}
-use mathlib.Core.Bool.{Bool, false, cond}
+use mathlib.Core.Bool.{Bool, true, false, cond}
 use mathlib.Core.List.{List}
 use mathlib.Core.Logic.{⊎_elim}
 use Prim.Native.Nat.{ℕ, ◌+◌, ◌-◌, ◌*◌, ◌≤◌, ◌<◌}
 use native.Mathlib.Decide.{dec_lt}
 use native.Mathlib.Omega.{arith}
+use lib.Dec.{leb}
 use lib.ListN.{length, get_or, set, replicate, length-set, get_or-map, get_or-replicate, get_or-eq_default}
 use lib.Seq.{get_or-set_same, get_or-set_other, ext_get_or}
 use Rattle.std.proofs.lemmas.List.{map-set}
@@ -76,7 +77,7 @@ laid-start p parent packets end =
       heard = so-far-start (hears_at p parent packets) end;
     }
 
-laid_next : (p : ℕ) (parent packets : Node → ℕ) (end k : ℕ) (sends hears : List ℕ) (at s h : ℕ) → Laid p parent packets end k sends hears at
+pub laid_next : (p : ℕ) (parent packets : Node → ℕ) (end k : ℕ) (sends hears : List ℕ) (at s h : ℕ) → Laid p parent packets end k sends hears at
     → k < p → p ≤ 63 → s < 65536 → s ≡ branch_packets p parent packets (k + 2) → h ≡ s - packets (k + 2)
     → Laid p parent packets end (k + 1) (set sends (k + 2) at) (set hears (k + 2) (at + 2 + 2 * s)) (at + (4 + 2 * s + 2 * h))
 laid_next p parent packets end k sends hears at s h b low few fits es eh =
@@ -126,7 +127,7 @@ pub laid-hears : (p : ℕ) (parent packets : Node → ℕ) (end : ℕ) (sends he
 unfolding hears_of
 laid-hears p parent packets end sends hears at b = b.heard
 
--- a list begins only where it has room
+-- a list begins only where it has room, and leaves a buffer as long as it was
 pub no-begin : (place : ℕ) (book : List ℕ) → length book < place + 2 → begun place book ≡ book
 unfolding begun
 no-begin place book h = rw (lt-leb (place + 2) (length book) h)
@@ -134,6 +135,14 @@ no-begin place book h = rw (lt-leb (place + 2) (length book) h)
 pub begin-there : (place : ℕ) (book : List ℕ) → place + 2 ≤ length book → begun place book ≡ two_set place 0 book
 unfolding begun
 begin-there place book h = rw (le-leb (place + 2) (length book) h)
+
+pub begun-long : (place : ℕ) (book : List ℕ) → length (begun place book) ≡ length book
+unfolding begun
+begun-long place book = go (leb (place + 2) (length book))
+  where
+    go : (b : Bool) → length (cond b (two_set place 0 book) book) ≡ length book
+    go true = simp length-set
+    go false = refl
 
 -- where the lists of a node stand
 pub sends-of : (lists : List Lists) (v : ℕ) → get_or (all_sends lists) v 0 ≡ (get_or lists v (record { sends = 0; hears = 0 })).sends

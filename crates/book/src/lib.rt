@@ -65,7 +65,8 @@ fn begin(place: usize, book: &mut [u8])
     if room < 2 || room - 2 < place {
         return;
     }
-    reader::put_two(place, 0, book);
+    book[place] = 0;
+    book[place + 1] = 0;
 }
 
 // Both lists of each of p probes, empty.

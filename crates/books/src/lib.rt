@@ -6,7 +6,7 @@ ghost use Rattle.meaning.specs.Book.{any_book, book_made};
 ghost use Rattle.files.specs.Status.{answered, refused, status_of, OrFailed};
 
 use files::{Answer, Status, Stream, within};
-use meaning::{Blame, Mode, Probe};
+use meaning::{Blame, Judgement, Mode, Probe};
 
 // Room for the words of any book: six bytes for each of its slots, and sixty for what else a line has.
 const ANY_WORDS: usize = 361000;
@@ -16,7 +16,7 @@ fn say_refused(rt: &HostRuntime, to: Stream, blame: Blame) -> Status
     ensures { OrFailed refused result }
 {
     let mut line = [0u8; wording::ANY_ANSWER];
-    let m = wording::verdict(&mut line, Mode::Packets, Err(blame));
+    let m = wording::verdict(&mut line, Mode::Packets, Judgement::from(Err(blame)));
     files::say(rt, to, &line[..m], Ok(Answer::Refused))
 }
 
@@ -26,7 +26,7 @@ fn write_made(rt: &HostRuntime, to: Stream, out: usize, book: &[u8]) -> Status
 {
     files::write_file(rt, to, out, book)?;
     let mut line = [0u8; wording::ANY_ANSWER];
-    let m = wording::written(&mut line, Ok(book.len()));
+    let m = wording::written(&mut line, meaning::ACCEPTED, book.len());
     files::say(rt, to, &line[..m], Ok(Answer::Answered))
 }
 

@@ -7,12 +7,14 @@ use native.Mathlib.Omega.{arith}
 use borrow.Author.Tests.{eq-eqb, ne_eqb, lt-ltb, le-ltb}
 use lib.Dec.{eqb, ltb}
 use lib.ListN.{length}
-use Rattle.meaning.specs.Returned.{Told}
-use Rattle.meaning.specs.Returned.{MergedTold}
+use Rattle.meaning.specs.declared.Outcome.{Outcome}
+use Rattle.meaning.specs.declared.Told.{Told}
+use Rattle.meaning.specs.declared.MergedTold.{MergedTold}
 use Rattle.meaning.specs.Lister.{text, decimal}
+use Rattle.wording.specs.Worded.{refused_line}
 use Rattle.lines.proofs.PartsLong.{Within, counted, both, numbered, digits_long}
 use Rattle.dealer.specs.SlotLength.{down, up, seconds_of}
-use Rattle.dealer.specs.Sentences.{minutes, timed, at_least, least_said, merged_said, ours_said, most_said, nobody_said, sentences, merged_sentences, spread_text}
+use Rattle.dealer.specs.Sentences.{minutes, timed, at_least, least_said, merged_said, ours_said, most_said, nobody_said, sentences, merged_sentences, spread_text, or_refused}
 
 -- a slot's length is known, or not
 module _ (slots ms rounding : ℕ) where
@@ -33,6 +35,14 @@ module _ (least ours times : ℕ) where
   pub none-shorter : ours ≤ least → text " Nobody's plan is shorter.\n" ≡ nobody_said least ours times
   unfolding nobody_said
   none-shorter least-slots = rw (le-ltb least ours least-slots)
+
+-- an answer, or the line of a refusal
+module _ (outcome : Outcome) (answer : List ℕ) where
+  pub refused-told : (outcome.number ≡ 0 → ⊥) → or_refused outcome answer ≡ refused_line outcome
+  refused-told ne = rw (ne_eqb outcome.number 0 ne)
+
+  pub answer-told : outcome.number ≡ 0 → or_refused outcome answer ≡ answer
+  answer-told e = rw (eq-eqb outcome.number 0 e)
 
 -- how long each part can be
 time-long : (slots ms rounding : ℕ) → Within (timed slots ms rounding) 20

@@ -1,8 +1,8 @@
 -- RULES, "The answers in words": what is said on the telephone, four sentences, of merged readings three, with minutes and seconds where a slot's length is known.
 use Rattle.std.specs.Prelude.{cond, [], ◌++◌, ℕ, ◌/◌, ◌%◌, eqb, ltb}
 use Rattle.meaning.specs.declared.Outcome.{Outcome}
-use Rattle.meaning.specs.Returned.{Told}
-use Rattle.meaning.specs.Returned.{MergedTold}
+use Rattle.meaning.specs.declared.Told.{Told}
+use Rattle.meaning.specs.declared.MergedTold.{MergedTold}
 use Rattle.meaning.specs.Words.{Bytes}
 use Rattle.meaning.specs.Answer.{is_accepted}
 use Rattle.meaning.specs.Lister.{text, decimal, said}

@@ -1,8 +1,7 @@
 // The telephone in the dealer's words: how long a slot is, the sentences about a sheet and its merged readings, and the line about other arrangements of its probes.
 #![tactic(auto)]
 
-ghost use Rattle.std.specs.Prelude.{◌≡◌, Ok, ◌≤◌, length, take};
-ghost use Rattle.meaning.specs.Results.{told_answer, merged_told_answer};
+ghost use Rattle.std.specs.Prelude.{◌≡◌, ◌≤◌, length, take};
 ghost use Rattle.lines.specs.Line.{line_length, line_in};
 ghost use Rattle.lines.specs.Text.{Says};
 ghost use Rattle.dealer.specs.SlotLength.{milliseconds_said, seconds_of};
@@ -10,7 +9,7 @@ ghost use Rattle.dealer.specs.Sentences.{timed, at_least, takes, plans_said, nob
 ghost use Rattle.dealer.specs.Sentences.{asked_text, merged_text, spread_text};
 
 use lines::{Answer, said};
-use meaning::{Limits, MergedLimits, Outcome, Refusal};
+use meaning::{MergedTold, Told};
 
 // A slot is at most a minute long, in milliseconds.
 const LONGEST_SLOT: u16 = 60000;
@@ -93,16 +92,16 @@ fn say_nobody(answer: &mut Answer, least: u16, ours: u16, times: u8)
 }
 
 // Says the four sentences.
-fn say_sentences(answer: &mut Answer, told: Limits, ms: u16)
-    ensures { Says 256 answer.old (sentences (told_answer (Ok told)) ms) answer.new }
+fn say_sentences(answer: &mut Answer, told: Told, ms: u16)
+    ensures { Says 256 answer.old (sentences told ms) answer.new }
 {
     say_plans(answer, b"One reading", told.least, told.ours, told.most, ms);
     say_nobody(answer, told.least, told.ours, told.times);
 }
 
 // Says the three sentences about merged readings.
-fn say_merged(answer: &mut Answer, told: MergedLimits, ms: u16)
-    ensures { Says 256 answer.old (merged_sentences (merged_told_answer (Ok told)) ms) answer.new }
+fn say_merged(answer: &mut Answer, told: MergedTold, ms: u16)
+    ensures { Says 256 answer.old (merged_sentences told ms) answer.new }
 {
     say_plans(
         answer,
@@ -116,27 +115,32 @@ fn say_merged(answer: &mut Answer, told: MergedLimits, ms: u16)
 }
 
 // What is said of a sheet, at the start of a lent buffer, in minutes too where ms is not 0; says how many bytes it has, 0 and nothing written where they do not fit.
-pub fn asked(out: &mut [u8], told: Result<Limits, Refusal>, ms: u16) -> usize
+pub fn asked(out: &mut [u8], told: Told, ms: u16) -> usize
     ensures part { (result ≤ length out.new) × (result ≡ length (take result out.new)) }
-    ensures answer { result ≡ line_length out.old (asked_text (told_answer told) ms) }
-    ensures buffer { out.new ≡ line_in out.old (asked_text (told_answer told) ms) }
+    ensures answer { result ≡ line_length out.old (asked_text told ms) }
+    ensures buffer { out.new ≡ line_in out.old (asked_text told ms) }
 {
-    match told {
-        Err(refusal) => wording::refused(out, Outcome::from(refusal)),
-        Ok(told) => said(out, |answer| say_sentences(answer, told, ms)),
+    let outcome = told.outcome;
+    if outcome.number != 0 {
+        return wording::refused(out, outcome);
     }
+    let mut answer = Answer::new();
+    say_sentences(&mut answer, told, ms);
+    said(out, &answer)
 }
 
 // The same of a sheet's merged readings; two functions, since both are public and what they say is `say_sentences` and `say_merged`.
-pub fn merged_asked(out: &mut [u8], told: Result<MergedLimits, Refusal>, ms: u16) -> usize
+pub fn merged_asked(out: &mut [u8], told: MergedTold, ms: u16) -> usize
     ensures part { (result ≤ length out.new) × (result ≡ length (take result out.new)) }
-    ensures answer { result ≡ line_length out.old (merged_text (merged_told_answer told) ms) }
-    ensures buffer { out.new ≡ line_in out.old (merged_text (merged_told_answer told) ms) }
+    ensures answer { result ≡ line_length out.old (merged_text told ms) }
+    ensures buffer { out.new ≡ line_in out.old (merged_text told ms) }
 {
-    match told {
-        Err(refusal) => wording::refused(out, Outcome::from(refusal)),
-        Ok(told) => said(out, |answer| say_merged(answer, told, ms)),
+    if told.outcome.number != 0 {
+        return wording::refused(out, told.outcome);
     }
+    let mut answer = Answer::new();
+    say_merged(&mut answer, told, ms);
+    said(out, &answer)
 }
 
 // Says the line about the other arrangements.
@@ -157,5 +161,7 @@ pub fn spread(out: &mut [u8], best: u16, worst: u16) -> usize
     ensures answer { result ≡ line_length out.old (spread_text best worst) }
     ensures buffer { out.new ≡ line_in out.old (spread_text best worst) }
 {
-    said(out, |answer| say_spread(answer, best, worst))
+    let mut answer = Answer::new();
+    say_spread(&mut answer, best, worst);
+    said(out, &answer)
 }

@@ -3,22 +3,26 @@
 #![tactic(auto)]
 
 ghost use Rattle.std.specs.Prelude.{◌≡◌, ◌≤◌, ◌++◌, min, length, replicate, IfOk, IfSome, MatchOption, Ok};
+ghost use Rattle.meaning.specs.Plan.{deciding_plan};
+ghost use Rattle.meaning.specs.Lister.{any_text};
 ghost use Rattle.lines.specs.Text.{Says};
-ghost use Rattle.files.specs.Status.{status_by, exit_number, OrFailed};
+ghost use Rattle.files.specs.Status.{status_of, status_by, exit_number, OrFailed};
 ghost use Rattle.files.specs.Name.{is_dash, plain_byte, flattened};
 
 use lines::Text;
+use meaning::Outcome;
 use std::env::{Env, FillError};
 use std::fs::{File, OpenOptions};
 use std::io::{Error, ErrorKind, Print, Read, Stdin, Write};
 use std::random::RandomSource;
 use std::{fs, io};
 
-// What is answered: what was asked for, or a refusal.
+// What is answered: what was asked for, a refusal, or what a caller has of its own, by a byte; `say` and `tell` hand on any.
 #[derive(Clone, Copy, PartialEq, Eq)]
 pub enum Answer {
     Answered,
     Refused,
+    Other(u8),
 }
 
 // That it could not be answered at all; why has been said.
@@ -37,6 +41,18 @@ impl Answer {
             Ok(_) => Answer::Answered,
             Err(_) => Answer::Refused,
         }
+    }
+}
+
+// What is answered by a number and its place: 0 is no refusal.
+impl From<Outcome> for Answer {
+    ghost from_gives = { λ outcome answer. Ok answer ≡ status_of outcome };
+
+    fn from(outcome: Outcome) -> Answer {
+        if outcome.number == 0 {
+            return Answer::Answered;
+        }
+        Answer::Refused
     }
 }
 
@@ -81,6 +97,22 @@ pub fn room<const N: usize>() -> [u8; N]
     ensures long { N ≡ length result }
 {
     [0; N]
+}
+
+// Room for any plan of ours, and for as much of another as decides its verdict; all zeros. Functions of their own, as `name_room`: what the constants are is said by their contracts.
+pub fn plan_room() -> [u8; meaning::DECIDING_PLAN]
+    ensures zeros { result ≡ replicate deciding_plan 0 }
+    ensures long { deciding_plan ≡ length result }
+{
+    room::<{ meaning::DECIDING_PLAN }>()
+}
+
+// Room for any text of the lister; all zeros.
+pub fn text_room() -> [u8; meaning::ANY_TEXT]
+    ensures zeros { result ≡ replicate any_text 0 }
+    ensures long { any_text ≡ length result }
+{
+    room::<{ meaning::ANY_TEXT }>()
 }
 
 // Room for a name; a function of its own, since its contract says how many bytes.
@@ -136,7 +168,7 @@ pub fn fail(rt: &HostRuntime, what: &[u8], error: &Error) -> Failed {
     Failed
 }
 
-// Writes a text at once; answers the status, after saying so where it could not be written.
+// Writes a text at once; answers the status, whatever it is, after saying so where it could not be written.
 pub fn say(rt: &HostRuntime, to: Stream, text: &[u8], status: Status) -> Status
     ensures { OrFailed status result }
 {
@@ -234,7 +266,7 @@ pub fn exit_number(status: Status) -> u8
     match status {
         Ok(Answer::Answered) => 0,
         Ok(Answer::Refused) => 1,
-        Err(Failed) => 2,
+        Ok(Answer::Other(_)) | Err(Failed) => 2,
     }
 }
 

@@ -1,15 +1,15 @@
 -- The answers of RULES, "Numbers returned", "The wake book", "The telephone", "Merged readings", "Worst and best" and "A graph as text", as C sees them.
 use Rattle.std.specs.Prelude.{ℕ}
-use Rattle.meaning.specs.Returned.{Planned}
-use Rattle.meaning.specs.Returned.{Judgement}
+use Rattle.meaning.specs.declared.Planned.{Planned}
+use Rattle.meaning.specs.declared.Judgement.{Judgement}
 use Rattle.meaning.specs.Returned.{Booked}
-use Rattle.meaning.specs.Returned.{Told}
-use Rattle.meaning.specs.Returned.{MergedTold}
+use Rattle.meaning.specs.declared.Told.{Told}
+use Rattle.meaning.specs.declared.MergedTold.{MergedTold}
 use Rattle.meaning.specs.declared.Choice.{Choice}
 use Rattle.meaning.specs.declared.Choice.TheVariants.{Neither, First, Second}
 use Rattle.arrangement.specs.Arranged.{SpreadTold}
 use Rattle.graph.specs.Drawing.{Drawn}
-use Rattle.graph.specs.Reading.{Graph}
+use Rattle.graph.specs.declared.Graph.{Graph}
 use Rattle.gateway.specs.declared.YardPlanned.{YardPlanned}
 use Rattle.gateway.specs.declared.YardVerdict.{YardVerdict}
 use Rattle.gateway.specs.declared.YardBooked.{YardBooked}

@@ -16,12 +16,11 @@ ghost use Rattle.arrangement.specs.Arranged.{spread_of, spread_answer, worst_she
 ghost use Rattle.listing.specs.Listed.{listed_length, listed_in};
 ghost use Rattle.graph.specs.Drawing.{drawn_answer, graph_made};
 ghost use Rattle.graph.specs.Reading.{graph_read};
-ghost use Rattle.graph.specs.Misreading.{graph_answer};
 ghost use Rattle.gateway.specs.Flat.{flat_planned, flat_verdict, flat_booked, flat_told, flat_merged_told, flat_spread, flat_drawn, flat_graph, choice_number};
 ghost use Rattle.gateway.specs.Rows.{word, row_words};
 
 use arrangement::Spread;
-use graph::Misread;
+use graph::Graph;
 use meaning::{Blame, Choice, Limits, MergedLimits, NOBODY, Plan, Refusal};
 use std::array;
 
@@ -266,21 +265,14 @@ impl From<Result<usize, Refusal>> for YardDrawn {
     }
 }
 
-impl From<Result<u8, Misread>> for YardGraph {
-    ghost from_gives = { λ r flat. flat ≡ flat_graph (graph_answer r) };
+impl From<Graph> for YardGraph {
+    ghost from_gives = { λ r flat. flat ≡ flat_graph r };
 
-    fn from(r: Result<u8, Misread>) -> YardGraph {
-        match r {
-            Ok(vertices) => YardGraph {
-                number: 0,
-                place: 0,
-                vertices,
-            },
-            Err(misread) => YardGraph {
-                number: misread.fault.number(),
-                place: misread.place,
-                vertices: 0,
-            },
+    fn from(r: Graph) -> YardGraph {
+        YardGraph {
+            number: r.number,
+            place: r.place,
+            vertices: r.vertices,
         }
     }
 }

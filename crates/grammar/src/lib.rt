@@ -9,6 +9,7 @@ ghost use Rattle.graph.specs.Lines.{same, is_number, number_at, is_comment, is_p
 use graph::Line;
 
 // How many bytes stand before the first mark, or before the end.
+#[inline(never)]
 pub fn part_length(mark: u8, bytes: &[u8]) -> usize
     ensures { result ≡ length (part mark 0 bytes.now) }
 {

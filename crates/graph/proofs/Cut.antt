@@ -19,6 +19,9 @@ part-whole mark (byte ∷ rest) none = here (eqb byte mark) (part-whole mark res
     here true again some = absurd (omega arith)
     here false again none = ap (λ (v : List ℕ). byte ∷ v) (again none)
 
+pub length_whole : (mark : ℕ) (u : List ℕ) → marks mark u ≡ 0 → length (part mark 0 u) ≡ length u
+length_whole mark u none = ap length (part-whole mark u none)
+
 -- a part that reaches the end has no mark behind it
 pub marks-none : (mark : ℕ) (u : List ℕ) → length (part mark 0 u) ≡ length u → marks mark u ≡ 0
 unfolding marks part

@@ -14,10 +14,11 @@ use Rattle.meaning.specs.Answer.{◌then◌, in_order, probe_test, walk_test, pa
 use Rattle.meaning.specs.Lister.{text, decimal}
 use Rattle.conflict.specs.Marks.{marked}
 use Rattle.digits.specs.Digits.{others_stand, digits_say, number_said}
+use Rattle.graph.specs.declared.Graph.{Graph}
 use Rattle.graph.specs.Part.{marks, part}
 use Rattle.graph.specs.Lines.{same, is_number, is_problem, is_edge, line_of}
 use Rattle.graph.specs.Table.{Table, no_edges, with_edge, edges_of, edges}
-use Rattle.graph.specs.Reading.{Graph, unread, may_stand, is_astray, line_test, taken, faulty, table_after, line_read, lines_read, last_read, end_test, ended, graph_read}
+use Rattle.graph.specs.Reading.{unread, may_stand, is_astray, line_test, taken, faulty, table_after, line_read, lines_read, last_read, end_test, ended, graph_read}
 use Rattle.graph.specs.Drawing.{texts, problem_line, edge_line, row_text, table_text, GraphMade, graph_made}
 
 -- what a row says. `read` gives a text, then number, place and vertices, and for each node from 0 on the nodes that it is joined to. `drawn` gives a

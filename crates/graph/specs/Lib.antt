@@ -2,5 +2,4 @@ pub mod Part
 pub mod Lines
 pub mod Table
 pub mod Reading
-pub mod Misreading
 pub mod Drawing

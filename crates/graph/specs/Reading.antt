@@ -3,24 +3,11 @@ use Rattle.std.specs.Prelude.{Bool, true, false, cond, not, ◌&&◌, ◌||◌, 
 use Rattle.meaning.specs.Words.{Bytes, for_each}
 use Rattle.graph.specs.declared.Line.{Line}
 use Rattle.graph.specs.declared.Line.TheVariants.{Comment, Problem, Edge, Other}
+use Rattle.graph.specs.declared.Reading.{Reading}
+use Rattle.graph.specs.declared.Graph.{Graph}
 use Rattle.graph.specs.Part.{newline, marks, part}
 use Rattle.graph.specs.Lines.{line_of}
 use Rattle.graph.specs.Table.{Table, no_edges, is_joined, with_edge, edges}
-
--- what was read of a text so far, beside its table: the number and line of a fault, the lines, and what the `p` line says
-pub record Reading : Type 0 where
-  pub number : ℕ
-  pub place : ℕ
-  pub lines : ℕ
-  pub begun : Bool
-  pub vertices : ℕ
-  pub stated : ℕ
-
--- "A graph as text": what the reader answers, number and place first; the vertices are 0 on refusal
-pub record Graph : Type 0 where
-  pub number : ℕ
-  pub place : ℕ
-  pub vertices : ℕ
 
 -- what was read of a text so far, and its table
 pub record SoFar : Type 0 where

@@ -4,8 +4,6 @@
 ghost use Rattle.std.specs.Prelude.{◌≡◌, ◌≤◌};
 ghost use Rattle.graph.specs.Table.{edges_of, edges};
 
-use meaning::Fault;
-
 // Room for any graph's text.
 pub const ANY_GRAPH: usize = 15081;
 
@@ -18,26 +16,23 @@ pub enum Line {
     Other,
 }
 
-// What a `p` line says: the vertices, and how many edges there are.
+// What was read of a text so far, beside its table: a fault and its line, the lines, and what the `p` line says.
 #[derive(Clone, Copy)]
-pub struct Problem {
+pub struct Reading {
+    pub number: u8,
+    pub place: u64,
+    pub lines: u64,
+    pub begun: bool,
     pub vertices: u8,
     pub stated: u16,
 }
 
-// What is known of a text whose lines have no fault so far, beside its table: how many they are, and what the `p` line says.
+// What the reader of a graph answers, beside its table; the vertices are 0 on refusal.
 #[derive(Clone, Copy)]
-pub struct Known {
-    pub lines: u64,
-    pub problem: Option<Problem>,
-}
-
-// What is wrong with a text, in which line, 0 where it is wrong at its end, and what the `p` line said before it.
-#[derive(Clone, Copy)]
-pub struct Misread {
-    pub fault: Fault,
+pub struct Graph {
+    pub number: u8,
     pub place: u64,
-    pub problem: Option<Problem>,
+    pub vertices: u8,
 }
 
 // How many edges a row of a table has behind its own place.

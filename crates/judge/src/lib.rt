@@ -34,13 +34,12 @@ impl<'a> Yard<'a> {
     fn tested(self, held: &[u16; 65], number: Slot, slot: &[u8]) -> Result<(), Blame>
         ensures { tested_answer result ≡ tested_in self.entry held.now number.0 slot.now }
     {
-        match self.mode {
-            Mode::Packets => slot::slot_tested(self.probes, self.table, held, number, slot),
-            Mode::Merged => {
-                let may = sending::ready(self.probes, self.parents, held);
-                slot::slot_tested(self.probes, self.table, &may, number, slot)
-            }
+        // No `match` of both modes: the usual plan then took a tenth longer to judge.
+        if let Mode::Merged = self.mode {
+            let may = sending::ready(self.probes, self.parents, held);
+            return slot::slot_tested(self.probes, self.table, &may, number, slot);
         }
+        slot::slot_tested(self.probes, self.table, held, number, slot)
     }
 
     // The slot at a place, 11 first, which names nobody; a passed slot moves what its senders send, and says where the next begins.

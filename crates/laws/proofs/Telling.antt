@@ -8,7 +8,7 @@ use borrow.Author.Tests.{eq-eqb, ne_eqb}
 use lib.ListN.{length, replicate, length-replicate}
 use Rattle.meaning.specs.declared.Mode.{Mode}
 use Rattle.meaning.specs.declared.Outcome.{Outcome}
-use Rattle.meaning.specs.Returned.{Planned}
+use Rattle.meaning.specs.declared.Planned.{Planned}
 use Rattle.meaning.specs.Plan.{plan_bytes}
 use Rattle.meaning.specs.Rounds.{Way, slots_in}
 use Rattle.meaning.specs.Answer.{accepted, is_accepted, sheet_test, refused_plan, PlanMade, plan_made_in}

@@ -5,8 +5,8 @@ use mathlib.Core.Bool.{Bool, ◌&&◌}
 use mathlib.Core.List.{List, [], ◌∷◌}
 use Prim.Native.Nat.{ℕ, ◌+◌, ◌-◌, ◌*◌}
 use lib.Dec.{T, eqb, ltb}
-use Rattle.meaning.specs.Returned.{Planned}
-use Rattle.meaning.specs.Returned.{Verdict}
+use Rattle.meaning.specs.declared.Planned.{Planned}
+use Rattle.meaning.specs.declared.Verdict.{Verdict}
 use Rattle.meaning.specs.Words.{for_each, some, sum, most, tab, probes_that}
 use Rattle.meaning.specs.Yard.{reaches, climb, climbed, lag_on}
 use Rattle.meaning.specs.Sheet.{parent_of, packets_of, level_of, hops, all_packets, slowest, least_slots, interfere}

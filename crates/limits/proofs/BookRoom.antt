@@ -12,8 +12,8 @@ use lib.Dec.{ltb}
 use lib.ListN.{length, length-append}
 use Rattle.meaning.specs.declared.Mode.TheVariants.{Packets}
 use Rattle.meaning.specs.declared.Outcome.{Outcome}
-use Rattle.meaning.specs.Returned.{Verdict}
-use Rattle.meaning.specs.Returned.{Judgement}
+use Rattle.meaning.specs.declared.Verdict.{Verdict}
+use Rattle.meaning.specs.declared.Judgement.{Judgement}
 use Rattle.meaning.specs.Words.{sum, sum_probes, in_turn}
 use Rattle.meaning.specs.Yard.{is_probe, branch_packets}
 use Rattle.meaning.specs.Sheet.{two_at, probe_count, parent_of, packets_of, level_of, hops, all_packets}

@@ -14,7 +14,7 @@ use lib.Seq.{take_all, take-take, get_or-take, length-take-le}
 use Rattle.meaning.specs.declared.Mode.{Mode}
 use Rattle.meaning.specs.declared.Mode.TheVariants.{Packets, Merged}
 use Rattle.meaning.specs.declared.Outcome.{Outcome}
-use Rattle.meaning.specs.Returned.{Verdict}
+use Rattle.meaning.specs.declared.Verdict.{Verdict}
 use Rattle.meaning.specs.declared.Names.{Names}
 use Rattle.meaning.specs.Words.{for_each, places}
 use Rattle.meaning.specs.Plan.{deciding_plan, deciding_merged, next_at, senders_at}

@@ -1,8 +1,10 @@
 -- Parts of an answer, one behind the other, where the buffer has room for all of them.
-use mathlib.Core.Path.{◌≡◌, refl, subst}
+use mathlib.Core.Path.{◌≡◌, refl, sym, ap, subst}
+use mathlib.Core.Bool.{Bool, true, false, cond, not}
 use mathlib.Core.List.{List, [], ◌++◌}
 use Prim.Native.Nat.{ℕ, ◌+◌, ◌≤◌}
 use native.Mathlib.Omega.{arith}
+use borrow.Author.Tests.{not-true, not-false}
 use lib.ListN.{length, length-append}
 use Rattle.lines.specs.Line.{fitting, Put}
 use Rattle.lines.specs.Fits.{Fits}
@@ -29,3 +31,10 @@ put-behind {l} {mid} {after} {xs} {ys} {at} {next} {end} f g = record { put = bo
 -- the same bytes by another name
 pub put_same : {l after bytes words : List ℕ} {at end : ℕ} → bytes ≡ words → Fits l at bytes after end → Fits l at words after end
 put_same {l} {after} {at} {end} e = subst (λ (b : List ℕ). Fits l at b after end) e
+
+-- bytes that stand only where a test says so
+pub put_if : {l after bytes : List ℕ} {at end : ℕ} (is : Bool) → not is ≡ false → Fits l at bytes after end → Fits l at (cond is bytes []) after end
+put_if {bytes = bytes} is e = put_same (sym (ap (λ (b : Bool). cond b bytes []) (not-false is e)))
+
+pub put-if-not : (l : List ℕ) (at : ℕ) (bytes : List ℕ) (is : Bool) → not is ≡ true → Fits l at (cond is bytes []) l at
+put-if-not l at bytes is e = put_same (sym (ap (λ (b : Bool). cond b bytes []) (not-true is e))) (put-nothing l at)

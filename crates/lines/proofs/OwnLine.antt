@@ -7,8 +7,6 @@ use native.Mathlib.Decide.{dec_le}
 use native.Mathlib.Omega.{arith}
 use lib.ListN.{length, take, drop, replicate, length-replicate}
 use lib.Seq.{sets-eq, take_at, length-take-le}
-use Rattle.std.specs.Fn.{Once, FnOnceReturnsAtMut}
-use Rattle.std.specs.Borrow.{MutBor}
 use Rattle.lines.specs.Text.{Says}
 use Rattle.lines.specs.Line.{Written, fitting, Put}
 use Rattle.lines.specs.Fits.{Fits}
@@ -29,15 +27,9 @@ copied {out} {after} {r} text p = go (dec_le (length text) (length out))
         let answer = answered-short out text (omega (arith, short)) in
         subst (Answered out text after) zero (subst (λ (l : List ℕ). Answered out text l 0) same answer)
 
--- what a step says is known, and has room: it is written
-pub said-whole : {F : Type 0} {g : Once F (MutBor (List ℕ) × Unit {0}) (Unit {0} × (MutBor (List ℕ) × Unit {0}))} {f : F} {out after bytes : List ℕ} {r : ℕ}
-    → length bytes ≤ 256
-    → ((p q : MutBor (List ℕ)) → g.post f (p, tt) (tt, (q, tt)) → Says 256 p.now bytes q.now)
-    → (text : List ℕ) × FnOnceReturnsAtMut g f [] tt text × Written out text after r
-    → Written out bytes after r
-said-whole {out} {after} {bytes} {r} short says (text, called, written) =
-    let whole = sym called.leaves ∙ said-all short called.shows (says called.shown called.left called.met) in
-    subst (λ (b : List ℕ). Written out b after r) whole written
+-- what is said on an empty text, and has room: it is written
+pub said-whole : {out after bytes before text : List ℕ} {r : ℕ} → length bytes ≤ 256 → before ≡ [] → Says 256 before bytes text → Written out text after r → Written out bytes after r
+said-whole {out} {after} {bytes} {r = r} short none says = subst (λ (b : List ℕ). Written out b after r) (said-all short none says)
 
 module _ {line text : List ℕ} {n size : ℕ} (short : length text ≤ size) (made : Fits (replicate size 0) 0 text line n) where
   -- the line as it is made

@@ -1,11 +1,12 @@
 -- Bytes put at a place of a buffer, one part behind the other: by recursion on the bytes.
 use mathlib.Core.Path.{◌≡◌, refl, sym, ap, ap₂, ◌∙◌, subst}
-use mathlib.Core.List.{List, [], ◌∷◌, ◌++◌, append_assoc}
-use Prim.Native.Nat.{ℕ, suc, ◌+◌, ◌-◌, ◌≤◌, ◌<◌}
+use mathlib.Core.List.{List, [], ◌∷◌, ◌++◌}
+use Prim.Native.Nat.{ℕ, suc, ◌+◌, ◌≤◌, ◌<◌}
 use native.Mathlib.Nat.{add-zero}
+use native.Mathlib.Numerals.{add-one}
 use native.Mathlib.Omega.{arith}
-use lib.ListN.{length, take, drop, set, length-append}
-use lib.Seq.{sets, sets-eq, length-sets, drop-drop}
+use lib.ListN.{length, get_or, take, set, length-append}
+use lib.Seq.{sets, length-sets, take-suc, take_all}
 use borrow.Author.Tests.{le-leb, lt-leb}
 use Rattle.lines.specs.Line.{Put, fitting}
 
@@ -35,19 +36,29 @@ put-more {l} {mid} {after} {xs} {ys} {at} {next} {end} p q =
 pub put-long : {l after bytes : List ℕ} {at end : ℕ} → Put l at bytes after end → length after ≡ length l
 put-long {l} {bytes} {at} p = ap length p.wrote ∙ length-sets l at bytes
 
--- a part of the buffer that bytes are copied over
-pub put-part : (l s written : List ℕ) (at : ℕ) → at + length s ≤ length l → written ≡ s
-    → Put l at s (take at l ++ (written ++ drop (at + length s - at) (drop at l))) (at + length s)
-put-part l s written at room is =
-    let behind : at + (at + length s - at) ≡ at + length s = omega arith in
-    record {
-      ends = refl;
-      wrote =
-          ap (λ (w : List ℕ). take at l ++ (w ++ drop (at + length s - at) (drop at l))) is
-          ∙ ap (λ (r : List ℕ). take at l ++ (s ++ r)) (drop-drop (at + length s - at) at l ∙ ap (λ (k : ℕ). drop k l) behind)
-          ∙ sym (append_assoc (take at l) s (drop (at + length s) l))
-          ∙ sym (sets-eq s l at room);
-    }
+-- the next byte of a text, and all of them
+pub put_next : (l mid s : List ℕ) (at i : ℕ) → i < length s → Put l at (take i s) mid (at + i)
+    → Put l at (take (i + 1) s) (set mid (at + i) (get_or s i 0)) (at + (i + 1))
+put_next l mid s at i h p =
+    let longer : take (i + 1) s ≡ take i s ++ (get_or s i 0 ∷ []) = rw (add-one i) (take-suc s i 0 h) in
+    let along : at + i + 1 ≡ at + (i + 1) = omega arith in
+    subst (λ (k : ℕ). Put l at (take (i + 1) s) (set mid (at + i) (get_or s i 0)) k) along
+    (subst (λ (b : List ℕ). Put l at b (set mid (at + i) (get_or s i 0)) (at + i + 1)) (sym longer)
+    (put-more p (put_one mid (at + i) (get_or s i 0))))
+
+pub put_all : (l out s : List ℕ) (at i end : ℕ) → length s ≤ i → Put l at (take i s) out end → Put l at s out end
+put_all l out s at i end h p = subst (λ (b : List ℕ). Put l at b out end) (take_all i s h) p
+
+pub put-start : (l s : List ℕ) (at : ℕ) → Put l at (take 0 s) l (at + 0)
+put-start l s at = record { ends = refl; wrote = refl }
+
+-- bytes that are one byte, or end in one
+pub put_byte : (l bytes : List ℕ) (at b : ℕ) → bytes ≡ b ∷ [] → Put l at bytes (set l at b) (at + 1)
+put_byte l bytes at b e = subst (λ (s : List ℕ). Put l at s (set l at b) (at + 1)) (sym e) (put_one l at b)
+
+pub put_last : (l mid xs bytes : List ℕ) (at next b : ℕ) → Put l at xs mid next → bytes ≡ xs ++ (b ∷ []) → Put l at bytes (set mid next b) (next + 1)
+put_last l mid xs bytes at next b p e =
+    subst (λ (s : List ℕ). Put l at s (set mid next b) (next + 1)) (sym e) (put-more p (put_one mid next b))
 
 -- nothing, where the bytes do not fit, and all of them, where they do
 pub put-short : (l : List ℕ) (at : ℕ) (bytes : List ℕ) → length l < at + length bytes → Put l at (fitting l at bytes) l at

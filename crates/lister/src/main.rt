@@ -6,7 +6,7 @@ use std::process::ExitCode;
 
 // Prints the text for a sheet; a refusal begins with its word.
 fn print(rt: &HostRuntime, sheet: &[u8]) -> Status {
-    let mut text = files::room::<{ meaning::ANY_TEXT }>();
+    let mut text = files::text_room();
     let m = listing::list(sheet, &mut text);
     files::put(rt, Stream::Output, &text[..m]).map_err(|error| files::fail(
         rt,

@@ -10,7 +10,7 @@ use borrow.Rule.Slice.PartMut.{put_mid}
 use lib.ListN.{length, take, drop, length-append, length-drop}
 use lib.Seq.{length-take-le}
 use Rattle.meaning.specs.declared.Mode.TheVariants.{Packets}
-use Rattle.meaning.specs.Returned.{Planned}
+use Rattle.meaning.specs.declared.Planned.{Planned}
 use Rattle.meaning.specs.Sheet.{hops, all_packets, heaviest, least_slots}
 use Rattle.meaning.specs.Plan.{any_plan, front, slots_from, room_for}
 use Rattle.meaning.specs.Rounds.{by_probe, slots_of}

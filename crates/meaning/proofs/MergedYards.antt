@@ -6,9 +6,9 @@ use Prim.Native.String.{String}
 use lib.Dec.{T}
 use lib.ListN.{replicate}
 use Rattle.meaning.specs.declared.Mode.TheVariants.{Merged}
-use Rattle.meaning.specs.Returned.{Planned}
-use Rattle.meaning.specs.Returned.{Judgement}
-use Rattle.meaning.specs.Returned.{MergedTold}
+use Rattle.meaning.specs.declared.Planned.{Planned}
+use Rattle.meaning.specs.declared.Judgement.{Judgement}
+use Rattle.meaning.specs.declared.MergedTold.{MergedTold}
 use Rattle.meaning.specs.Words.{for_each, some, least, sum, most, tab, probes_that}
 use Rattle.meaning.specs.Yard.{reaches, climb, climbed}
 use Rattle.meaning.specs.Sheet.{parent_of, packets_of, level_of, hops, interfere}

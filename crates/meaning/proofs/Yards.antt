@@ -9,12 +9,12 @@ use lib.Dec.{T, eqb}
 use lib.ListN.{take, drop, replicate}
 use Rattle.meaning.specs.declared.Mode.TheVariants.{Packets}
 use Rattle.meaning.specs.declared.Outcome.{Outcome}
-use Rattle.meaning.specs.Returned.{Planned}
-use Rattle.meaning.specs.Returned.{Told}
-use Rattle.meaning.specs.Returned.{Verdict}
+use Rattle.meaning.specs.declared.Planned.{Planned}
+use Rattle.meaning.specs.declared.Told.{Told}
+use Rattle.meaning.specs.declared.Verdict.{Verdict}
 use Rattle.meaning.specs.declared.Names.{Names}
 use Rattle.meaning.specs.Returned.{Tested}
-use Rattle.meaning.specs.Returned.{Judgement}
+use Rattle.meaning.specs.declared.Judgement.{Judgement}
 use Rattle.meaning.specs.Words.{Bytes, for_each, some, least, sum, most, tab, places, probes_that}
 use Rattle.meaning.specs.Yard.{reaches, climb, climbed, lag_on}
 use Rattle.meaning.specs.Sheet.{two_at, probe_count, parent_of, packets_of, level_of, hops, all_packets, heaviest, longest, slowest, least_slots, interfere}

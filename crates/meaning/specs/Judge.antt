@@ -3,10 +3,10 @@ use Rattle.std.specs.Prelude.{Bool, cond, not, ◌&&◌, ◌||◌, List, ℕ, �
 use Rattle.meaning.specs.declared.Mode.{Mode}
 use Rattle.meaning.specs.declared.Mode.TheVariants.{Packets}
 use Rattle.meaning.specs.declared.Outcome.{Outcome}
-use Rattle.meaning.specs.Returned.{Verdict}
+use Rattle.meaning.specs.declared.Verdict.{Verdict}
 use Rattle.meaning.specs.declared.Names.{Names}
 use Rattle.meaning.specs.Returned.{Tested}
-use Rattle.meaning.specs.Returned.{Judgement}
+use Rattle.meaning.specs.declared.Judgement.{Judgement}
 use Rattle.meaning.specs.declared.Choice.{Choice}
 use Rattle.meaning.specs.declared.Choice.TheVariants.{Neither, First, Second}
 use Rattle.meaning.specs.Words.{Bytes, Node, Relation, for_each, some, least, tab, places}

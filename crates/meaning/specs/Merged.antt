@@ -1,6 +1,6 @@
 -- RULES, "Merged readings": a good merged plan, told without a judge and without what is held; and the telephone's answer in this mode.
 use Rattle.std.specs.Prelude.{◌≡◌, true, cond, List, [], ℕ, ◌*◌, ◌<◌, min, length, get_or}
-use Rattle.meaning.specs.Returned.{MergedTold}
+use Rattle.meaning.specs.declared.MergedTold.{MergedTold}
 use Rattle.meaning.specs.Words.{Bytes, Node, Slots, tab, places}
 use Rattle.meaning.specs.Yard.{is_probe}
 use Rattle.meaning.specs.Sheet.{probe_count, parent_of}

@@ -6,7 +6,11 @@ use Rattle.meaning.specs.declared.Plan.{Plan}
 use Rattle.meaning.specs.declared.Limits.{Limits}
 use Rattle.meaning.specs.declared.MergedLimits.{MergedLimits}
 use Rattle.meaning.specs.declared.Outcome.{Outcome}
-use Rattle.meaning.specs.Returned.{number_of, Planned, Tested, Judgement, Booked, Told, MergedTold}
+use Rattle.meaning.specs.declared.Planned.{Planned}
+use Rattle.meaning.specs.declared.Judgement.{Judgement}
+use Rattle.meaning.specs.declared.Told.{Told}
+use Rattle.meaning.specs.declared.MergedTold.{MergedTold}
+use Rattle.meaning.specs.Returned.{number_of, Tested, Booked}
 use Rattle.meaning.specs.Answer.{accepted, refused_plan}
 use Rattle.meaning.specs.Judge.{nobody}
 

@@ -30,26 +30,9 @@ number_of EdgeCount = 20
 number_of TextRoom = 21
 number_of BookRoom = 22
 
--- "Numbers returned": what a planner answers; the last three are 0 on refusal
-pub record Planned : Type 0 where
-  pub outcome : Outcome
-  pub colours : ℕ
-  pub slots : ℕ
-  pub bytes : ℕ
-
--- "Numbers returned": the verdict on a plan; the slots are 0 unless it is passed
-pub record Verdict : Type 0 where
-  pub outcome : Outcome
-  pub slots : ℕ
-
 -- "Whom a refusal names": what the test of a slot, or of a plan's slots, answers
 pub record Tested : Type 0 where
   pub outcome : Outcome
-  pub names : Names
-
--- "Whom a refusal names": what the judge answers, the verdict and whom it names
-pub record Judgement : Type 0 where
-  pub verdict : Verdict
   pub names : Names
 
 -- "The wake book": what the maker of wake books answers; the bytes are 0 on refusal
@@ -57,18 +40,3 @@ pub record Booked : Type 0 where
   pub outcome : Outcome
   pub names : Names
   pub bytes : ℕ
-
--- "The telephone": what it answers; the last four are 0 on refusal
-pub record Told : Type 0 where
-  pub outcome : Outcome
-  pub least : ℕ
-  pub ours : ℕ
-  pub most : ℕ
-  pub times : ℕ
-
--- "Merged readings": what the telephone answers of them; the last three are 0 on refusal
-pub record MergedTold : Type 0 where
-  pub outcome : Outcome
-  pub least : ℕ
-  pub ours : ℕ
-  pub most : ℕ

@@ -1,6 +1,6 @@
 -- RULES, "The telephone", for demand 3: how many slots at least, in our plan by probe, and at most, and how many times as long as anybody's it is at most.
 use Rattle.std.specs.Prelude.{cond, ℕ, ◌+◌, ◌-◌, ◌*◌, ◌/◌, min}
-use Rattle.meaning.specs.Returned.{Told}
+use Rattle.meaning.specs.declared.Told.{Told}
 use Rattle.meaning.specs.Words.{Bytes}
 use Rattle.meaning.specs.Sheet.{hops, slowest, least_slots}
 use Rattle.meaning.specs.Plan.{any_plan}

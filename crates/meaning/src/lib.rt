@@ -4,7 +4,7 @@
 ghost use Rattle.std.specs.Prelude.{◌≡◌};
 ghost use Rattle.meaning.specs.Returned.{number_of};
 ghost use Rattle.meaning.specs.Judge.{nobody};
-ghost use Rattle.meaning.specs.Results.{outcome_of};
+ghost use Rattle.meaning.specs.Results.{outcome_of, plan_answer, judge_answer, told_answer, merged_told_answer};
 
 // So many bytes of a sheet decide every answer.
 pub const DECIDING_SHEET: usize = 4162;
@@ -97,6 +97,12 @@ pub struct Outcome {
     pub place: u16,
 }
 
+// The answer where nothing is wrong.
+pub const ACCEPTED: Outcome = Outcome {
+    number: 0,
+    place: 0,
+};
+
 impl From<Refusal> for Outcome {
     ghost from_gives = { λ refusal outcome. outcome ≡ outcome_of refusal };
 
@@ -114,6 +120,43 @@ pub struct Plan {
     pub colours: u8,
     pub slots: u16,
     pub bytes: usize,
+}
+
+// What a planner answers, as it is said; the last three are 0 on refusal. A record of any number, since `wording` and `plans` promise their words of any.
+#[derive(Clone, Copy)]
+pub struct Planned {
+    pub outcome: Outcome,
+    pub colours: u8,
+    pub slots: u16,
+    pub bytes: usize,
+}
+
+impl From<Result<Plan, Refusal>> for Planned {
+    ghost from_gives = { λ made planned. planned ≡ plan_answer made };
+
+    fn from(made: Result<Plan, Refusal>) -> Planned {
+        match made {
+            Ok(plan) => Planned {
+                outcome: ACCEPTED,
+                colours: plan.colours,
+                slots: plan.slots,
+                bytes: plan.bytes,
+            },
+            Err(refusal) => Planned {
+                outcome: Outcome::from(refusal),
+                colours: 0,
+                slots: 0,
+                bytes: 0,
+            },
+        }
+    }
+}
+
+// The verdict on a plan; the slots are 0 unless it is passed.
+#[derive(Clone, Copy)]
+pub struct Verdict {
+    pub outcome: Outcome,
+    pub slots: u16,
 }
 
 // Whom a refusal names: senders of the slot, by their bytes; 0 where it names nobody. A sender may be 0 itself: the number tells.
@@ -148,6 +191,36 @@ impl From<Refusal> for Blame {
     }
 }
 
+// What the judge answers, as it is said: the verdict, and whom it names. Of any number, as `Planned`.
+#[derive(Clone, Copy)]
+pub struct Judgement {
+    pub verdict: Verdict,
+    pub names: Names,
+}
+
+impl From<Result<u16, Blame>> for Judgement {
+    ghost from_gives = { λ judged judgement. judgement ≡ judge_answer judged };
+
+    fn from(judged: Result<u16, Blame>) -> Judgement {
+        match judged {
+            Ok(slots) => Judgement {
+                verdict: Verdict {
+                    outcome: ACCEPTED,
+                    slots,
+                },
+                names: NOBODY,
+            },
+            Err(blame) => Judgement {
+                verdict: Verdict {
+                    outcome: Outcome::from(blame.refusal),
+                    slots: 0,
+                },
+                names: blame.names,
+            },
+        }
+    }
+}
+
 // The slots of a reading at least, in our plan and at most, and how many times anybody's ours is.
 #[derive(Clone, Copy)]
 pub struct Limits {
@@ -155,6 +228,39 @@ pub struct Limits {
     pub ours: u16,
     pub most: u16,
     pub times: u8,
+}
+
+// What the telephone answers, as it is said; the last four are 0 on refusal. Of any number, as `Planned`.
+#[derive(Clone, Copy)]
+pub struct Told {
+    pub outcome: Outcome,
+    pub least: u16,
+    pub ours: u16,
+    pub most: u16,
+    pub times: u8,
+}
+
+impl From<Result<Limits, Refusal>> for Told {
+    ghost from_gives = { λ asked told. told ≡ told_answer asked };
+
+    fn from(asked: Result<Limits, Refusal>) -> Told {
+        match asked {
+            Ok(limits) => Told {
+                outcome: ACCEPTED,
+                least: limits.least,
+                ours: limits.ours,
+                most: limits.most,
+                times: limits.times,
+            },
+            Err(refusal) => Told {
+                outcome: Outcome::from(refusal),
+                least: 0,
+                ours: 0,
+                most: 0,
+                times: 0,
+            },
+        }
+    }
 }
 
 // What a reading brings in: every packet of every probe, or one reading of each probe, merged on its way.
@@ -170,6 +276,36 @@ pub struct MergedLimits {
     pub least: u16,
     pub ours: u16,
     pub most: u16,
+}
+
+// What the telephone answers of merged readings, as it is said; the last three are 0 on refusal. Of any number, as `Planned`.
+#[derive(Clone, Copy)]
+pub struct MergedTold {
+    pub outcome: Outcome,
+    pub least: u16,
+    pub ours: u16,
+    pub most: u16,
+}
+
+impl From<Result<MergedLimits, Refusal>> for MergedTold {
+    ghost from_gives = { λ asked told. told ≡ merged_told_answer asked };
+
+    fn from(asked: Result<MergedLimits, Refusal>) -> MergedTold {
+        match asked {
+            Ok(limits) => MergedTold {
+                outcome: ACCEPTED,
+                least: limits.least,
+                ours: limits.ours,
+                most: limits.most,
+            },
+            Err(refusal) => MergedTold {
+                outcome: Outcome::from(refusal),
+                least: 0,
+                ours: 0,
+                most: 0,
+            },
+        }
+    }
 }
 
 // Which of two plans the chooser hands back.

@@ -7,8 +7,8 @@ use Prim.Native.Nat.{ℕ, ◌*◌, min}
 use lib.ListN.{length, get_or}
 use Rattle.meaning.specs.declared.Mode.TheVariants.{Merged}
 use Rattle.meaning.specs.declared.Level.{Level}
-use Rattle.meaning.specs.Returned.{Planned}
-use Rattle.meaning.specs.Returned.{MergedTold}
+use Rattle.meaning.specs.declared.Planned.{Planned}
+use Rattle.meaning.specs.declared.MergedTold.{MergedTold}
 use Rattle.meaning.specs.Words.{most_probes}
 use Rattle.meaning.specs.Plan.{any_merged}
 use Rattle.meaning.specs.Colour.{depth}

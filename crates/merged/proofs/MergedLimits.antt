@@ -8,8 +8,8 @@ use Prim.Native.Nat.{ℕ, ◌≤◌, ◌<◌}
 use native.Mathlib.Omega.{arith}
 use lib.ListN.{length, get_or, take}
 use Rattle.meaning.specs.declared.Mode.TheVariants.{Merged}
-use Rattle.meaning.specs.Returned.{Verdict}
-use Rattle.meaning.specs.Returned.{MergedTold}
+use Rattle.meaning.specs.declared.Verdict.{Verdict}
+use Rattle.meaning.specs.declared.MergedTold.{MergedTold}
 use Rattle.meaning.specs.Sheet.{deciding_sheet}
 use Rattle.meaning.specs.Plan.{plan_bytes, any_merged}
 use Rattle.meaning.specs.Colour.{colours_used, probe_colours, depth}

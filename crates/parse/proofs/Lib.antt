@@ -1,3 +1,5 @@
 -- Laws that the functions' proofs cite.
-pub mod Faults
+pub mod LineTaken
+pub mod TablePlaces
+pub mod Ends
 pub mod Whole

@@ -6,9 +6,10 @@ use lib.ListN.{length, take, drop, length-drop, drop_of_length-le}
 use lib.Seq.{take_all, drop-drop, length-take-le}
 use Rattle.meaning.specs.Words.{Bytes, for_each}
 use Rattle.laws.proofs.Turns.{for_each-same}
+use Rattle.graph.specs.declared.Reading.{Reading}
 use Rattle.graph.specs.Part.{newline, marks, part}
 use Rattle.graph.specs.Table.{Table, no_edges}
-use Rattle.graph.specs.Reading.{Reading, SoFar, unread, line_read, lines_read, last_read, ended, graph_read}
+use Rattle.graph.specs.Reading.{SoFar, unread, line_read, lines_read, last_read, ended, graph_read}
 use Rattle.graph.proofs.Cut.{part-whole, marks-none, part-within, take_part, marks-behind, parts-behind}
 use Rattle.parse.specs.Piece.{behind_last, last_begins, lines_after}
 

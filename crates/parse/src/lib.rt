@@ -5,22 +5,21 @@ ghost use Rattle.std.specs.Prelude.{◌≡◌, ◌≤◌, drop};
 ghost use Rattle.meaning.specs.Words.{places};
 ghost use Rattle.conflict.specs.Marks.{marked};
 ghost use Rattle.graph.specs.Table.{no_edges, is_joined, with_edge};
-ghost use Rattle.graph.specs.Reading.{unread, next_line, may_stand, is_astray, line_test, taken, table_after, line_read, last_read, end_test, ended, graph_read};
-ghost use Rattle.graph.specs.Misreading.{reading_of, state_of, graph_answer};
-ghost use Rattle.parse.specs.Tested.{Tests, LineTests};
+ghost use Rattle.graph.specs.Reading.{unread, next_line, may_stand, is_astray, line_test, taken, faulty, table_after, line_read, last_read, end_test, ended, graph_read};
+ghost use Rattle.parse.specs.Tested.{number_told};
 ghost use Rattle.parse.specs.Vertices.{vertices_said};
 ghost use Rattle.parse.specs.Piece.{behind_last, last_begins, lines_after};
 
-use graph::{Known, Line, Misread, Problem};
+use graph::{Graph, Line, Reading};
 use meaning::Fault;
 
 // The newline.
 const NEWLINE: u8 = b'\n';
 
-// What was read of the lines of a piece, and where its last line begins, which is not ended yet.
+// What was read of a text, and where its last line begins, which is not ended yet.
 #[derive(Clone, Copy)]
 pub struct Stepped {
-    pub read: Result<Known, Misread>,
+    pub read: Reading,
     pub at: usize,
 }
 
@@ -33,44 +32,26 @@ fn clear(table: &mut [[bool; 65]; 65])
 
 // Before the first line.
 #[tactic(auto, unfolding(graph::specs::Reading::unread))]
-pub fn unread(table: &mut [[bool; 65]; 65]) -> Known
-    ensures state { reading_of result ≡ unread }
+pub fn unread(table: &mut [[bool; 65]; 65]) -> Reading
+    ensures state { result ≡ unread }
     ensures table { table.new ≡ no_edges }
 {
     clear(table);
-    Known {
+    Reading {
+        number: 0,
+        place: 0,
         lines: 0,
-        problem: None,
+        begun: false,
+        vertices: 0,
+        stated: 0,
     }
 }
 
 // The number of the next line; no number above the last that 64 bits hold is told.
-fn next_line(read: Known) -> u64
-    ensures { result ≡ next_line (reading_of read) }
+fn next_line(read: Reading) -> u64
+    ensures { result ≡ next_line read }
 {
     read.lines.saturating_add(1)
-}
-
-// A fault of the next line.
-fn in_line(fault: Fault, read: Known) -> Misread
-    ensures { result ≡ record { fault = fault; place = next_line (reading_of read); problem = read.problem } }
-{
-    Misread {
-        fault,
-        place: next_line(read),
-        problem: read.problem,
-    }
-}
-
-// A fault of the text as a whole.
-fn at_the_end(fault: Fault, read: Known) -> Misread
-    ensures { result ≡ record { fault = fault; place = 0; problem = read.problem } }
-{
-    Misread {
-        fault,
-        place: 0,
-        problem: read.problem,
-    }
 }
 
 // Whether an edge stands in a table; what has no place is joined to nothing.
@@ -85,63 +66,78 @@ fn is_joined(table: &[[bool; 65]; 65], a: u16, b: u16) -> bool
 
 // Whether a line may stand behind what was read, but for its vertices.
 #[tactic(auto, unfolding(graph::specs::Reading::may_stand))]
-fn may_stand(read: Known, table: &[[bool; 65]; 65], line: Line) -> bool
-    ensures { result ≡ may_stand (reading_of read) table.now line }
+fn may_stand(read: Reading, table: &[[bool; 65]; 65], line: Line) -> bool
+    ensures { result ≡ may_stand read table.now line }
 {
     match line {
         Line::Comment => true,
-        Line::Problem(n, _) => read.problem.is_none() & (n <= 63),
-        Line::Edge(a, b) => read.problem.is_some() & !is_joined(table, a, b),
+        Line::Problem(n, _) => !read.begun & (n <= 63),
+        Line::Edge(a, b) => read.begun & !is_joined(table, a, b),
         Line::Other => false,
     }
 }
 
 // Whether a line has a vertex out of range, or a loop.
 #[tactic(auto, unfolding(graph::specs::Reading::is_astray))]
-fn is_astray(read: Known, line: Line) -> bool
-    ensures { result ≡ is_astray (reading_of read) line }
+fn is_astray(read: Reading, line: Line) -> bool
+    ensures { result ≡ is_astray read line }
 {
     let Line::Edge(a, b) = line else {
         return false;
     };
-    let n = match read.problem {
-        Some(problem) => u16::from(problem.vertices),
-        None => 0,
-    };
+    let n = u16::from(read.vertices);
     (a == 0) | (n < a) | ((b == 0) | (n < b) | (a == b))
 }
 
 // What is wrong with a line, 18 first.
 #[tactic(auto, unfolding(graph::specs::Reading::line_test))]
-fn line_test(read: Known, table: &[[bool; 65]; 65], line: Line) -> Result<(), Misread>
-    ensures { LineTests (line_test (reading_of read) table.now line) read result }
+fn line_test(read: Reading, table: &[[bool; 65]; 65], line: Line) -> Option<Fault>
+    ensures { number_told result ≡ line_test read table.now line }
 {
     if !may_stand(read, table, line) {
-        return Err(in_line(Fault::LineAstray, read));
+        return Some(Fault::LineAstray);
     }
     if is_astray(read, line) {
-        return Err(in_line(Fault::VertexWrong, read));
+        return Some(Fault::VertexWrong);
     }
-    Ok(())
+    None
 }
 
 // What is known after a line without a fault.
 #[tactic(auto, unfolding(graph::specs::Reading::taken, crate::specs::Vertices::vertices_said))]
-fn taken(read: Known, line: Line) -> Known
+fn taken(read: Reading, line: Line) -> Reading
     requires few { vertices_said line ≤ 63 }
-    ensures { reading_of result ≡ taken (reading_of read) line }
+    ensures { result ≡ taken read line }
 {
-    let lines = next_line(read);
+    let next = Reading {
+        number: 0,
+        place: 0,
+        lines: next_line(read),
+        ..read
+    };
     if let Line::Problem(n, m) = line {
-        return Known {
-            lines,
-            problem: Some(Problem {
-                vertices: n as u8,
-                stated: m,
-            }),
+        return Reading {
+            begun: true,
+            vertices: n as u8,
+            stated: m,
+            ..next
         };
     }
-    Known { lines, ..read }
+    next
+}
+
+// What is known after a line with a fault: its place is the line.
+#[tactic(auto, unfolding(graph::specs::Reading::faulty))]
+fn faulty(number: u8, read: Reading) -> Reading
+    ensures { result ≡ faulty number read }
+{
+    let line = next_line(read);
+    Reading {
+        number,
+        place: line,
+        lines: line,
+        ..read
+    }
 }
 
 // Two nodes are joined one way, where both have a place.
@@ -177,76 +173,86 @@ fn table_after(table: &mut [[bool; 65]; 65], line: Line)
 }
 
 // One line more; behind the first faulty line nothing changes.
-pub fn line_read(
-    read: Result<Known, Misread>,
-    line: &[u8],
-    table: &mut [[bool; 65]; 65],
-) -> Result<Known, Misread>
-    ensures state { state_of result ≡ (line_read (record { state = state_of read; table = table.old }) line.now).state }
-    ensures table { table.new ≡ (line_read (record { state = state_of read; table = table.old }) line.now).table }
+pub fn line_read(read: Reading, line: &[u8], table: &mut [[bool; 65]; 65]) -> Reading
+    ensures state { result ≡ (line_read (record { state = read; table = table.old }) line.now).state }
+    ensures table { table.new ≡ (line_read (record { state = read; table = table.old }) line.now).table }
 {
-    let read = read?;
+    if read.number != 0 {
+        return read;
+    }
     let said = grammar::line_of(line);
-    line_test(read, table, said)?;
+    if let Some(fault) = line_test(read, table, said) {
+        return faulty(fault.number(), read);
+    }
     table_after(table, said);
-    Ok(taken(read, said))
+    taken(read, said)
 }
 
 // The bytes behind the last newline: they are an unended line.
-#[tactic(auto, unfolding(graph::specs::Reading::last_read, graph::specs::Reading::faulty))]
-pub fn last_read(read: Result<Known, Misread>, behind: &[u8]) -> Result<Known, Misread>
-    ensures { state_of result ≡ last_read (state_of read) behind.now }
+#[tactic(auto, unfolding(graph::specs::Reading::last_read))]
+pub fn last_read(read: Reading, behind: &[u8]) -> Reading
+    ensures { result ≡ last_read read behind.now }
 {
-    let read = read?;
+    if read.number != 0 {
+        return read;
+    }
     if behind.is_empty() {
-        return Ok(read);
+        return read;
     }
-    Err(in_line(Fault::LineAstray, read))
+    faulty(Fault::LineAstray.number(), read)
 }
 
-// The vertices of a text without a faulty line, or what is wrong at its end.
+// What is wrong at the end.
 #[tactic(auto, unfolding(graph::specs::Reading::end_test))]
-fn end_test(read: Known, table: &[[bool; 65]; 65]) -> Result<u8, Misread>
-    ensures { Tests (end_test (reading_of read) table.now) 0 (reading_of read).vertices result }
+fn end_test(read: Reading, table: &[[bool; 65]; 65]) -> Option<Fault>
+    ensures { number_told result ≡ end_test read table.now }
 {
-    let Some(problem) = read.problem else {
-        return Err(at_the_end(Fault::LineAstray, read));
-    };
-    if problem.stated != graph::edges(table) {
-        return Err(at_the_end(Fault::EdgeCount, read));
+    if !read.begun {
+        return Some(Fault::LineAstray);
     }
-    Ok(problem.vertices)
+    if read.stated != graph::edges(table) {
+        return Some(Fault::EdgeCount);
+    }
+    None
 }
 
-// The vertices of a text, or what is wrong with it.
-fn answered(read: Result<Known, Misread>, table: &[[bool; 65]; 65]) -> Result<u8, Misread>
-    ensures { graph_answer result ≡ (ended (record { state = state_of read; table = table.now })).answer }
+// A refused text gives the table of 0 vertices.
+fn refused(number: u8, place: u64, table: &mut [[bool; 65]; 65]) -> Graph
+    ensures answer { result ≡ record { number = number; place = place; vertices = 0 } }
+    ensures table { table.new ≡ no_edges }
 {
-    end_test(read?, table)
+    clear(table);
+    Graph {
+        number,
+        place,
+        vertices: 0,
+    }
 }
 
-// What is answered at the end of a text; a refused text gives the table of 0 vertices.
-pub fn ended(read: Result<Known, Misread>, table: &mut [[bool; 65]; 65]) -> Result<u8, Misread>
-    ensures answer { graph_answer result ≡ (ended (record { state = state_of read; table = table.old })).answer }
-    ensures table { table.new ≡ (ended (record { state = state_of read; table = table.old })).table }
+// What is answered at the end of a text.
+pub fn ended(read: Reading, table: &mut [[bool; 65]; 65]) -> Graph
+    ensures answer { result ≡ (ended (record { state = read; table = table.old })).answer }
+    ensures table { table.new ≡ (ended (record { state = read; table = table.old })).table }
 {
-    let answer = answered(read, table);
-    if answer.is_err() {
-        clear(table);
+    if read.number != 0 {
+        return refused(read.number, read.place, table);
     }
-    answer
+    if let Some(fault) = end_test(read, table) {
+        return refused(fault.number(), 0, table);
+    }
+    Graph {
+        number: 0,
+        place: 0,
+        vertices: read.vertices,
+    }
 }
 
 // The lines of a piece that are ended, one after the other.
-pub fn lines_after(
-    read: Result<Known, Misread>,
-    piece: &[u8],
-    table: &mut [[bool; 65]; 65],
-) -> Stepped
-    ensures state { state_of result.read ≡ (lines_after (record { state = state_of read; table = table.old }) piece.now).state }
+pub fn lines_after(read: Reading, piece: &[u8], table: &mut [[bool; 65]; 65]) -> Stepped
+    ensures state { result.read ≡ (lines_after (record { state = read; table = table.old }) piece.now).state }
     ensures place { result.at ≡ last_begins piece.now }
     ensures behind { drop result.at piece.now ≡ behind_last piece.now }
-    ensures table { table.new ≡ (lines_after (record { state = state_of read; table = table.old }) piece.now).table }
+    ensures table { table.new ≡ (lines_after (record { state = read; table = table.old }) piece.now).table }
 {
     // By a place, not over `split`: where the last line begins is answered too, and that line is not read.
     let mut so_far = read;
@@ -264,12 +270,12 @@ pub fn lines_after(
 }
 
 // A text read into a table.
-pub fn graph_read(text: &[u8], table: &mut [[bool; 65]; 65]) -> Result<u8, Misread>
-    ensures answer { graph_answer result ≡ (graph_read text.now).answer }
+pub fn graph_read(text: &[u8], table: &mut [[bool; 65]; 65]) -> Graph
+    ensures answer { result ≡ (graph_read text.now).answer }
     ensures table { table.new ≡ (graph_read text.now).table }
 {
     let start = unread(table);
-    let stepped = lines_after(Ok(start), text, table);
+    let stepped = lines_after(start, text, table);
     let at = stepped.at;
     ended(last_read(stepped.read, &text[at..]), table)
 }

@@ -2,7 +2,7 @@
 use Rattle.std.specs.Prelude.{◌≡◌, Bool, List, ℕ, ◌≤◌, ltb, length}
 use Rattle.meaning.specs.declared.Mode.{Mode}
 use Rattle.meaning.specs.declared.Outcome.{Outcome}
-use Rattle.meaning.specs.Returned.{Planned}
+use Rattle.meaning.specs.declared.Planned.{Planned}
 use Rattle.sheet.specs.declared.Tree.{Tree}
 use Rattle.meaning.specs.Plan.{plan_bytes, room_for, front}
 use Rattle.meaning.specs.Rounds.{sendings_in}

@@ -10,7 +10,7 @@ use lib.ListN.{length, take, drop}
 use lib.Seq.{take_at}
 use Rattle.meaning.specs.declared.Mode.{Mode}
 use Rattle.meaning.specs.declared.Outcome.{Outcome}
-use Rattle.meaning.specs.Returned.{Planned}
+use Rattle.meaning.specs.declared.Planned.{Planned}
 use Rattle.meaning.specs.Words.{Bytes}
 use Rattle.meaning.specs.Plan.{plan_bytes, room_for, front}
 use Rattle.meaning.specs.Rounds.{Way, sendings_in, slots_in}

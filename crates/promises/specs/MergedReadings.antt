@@ -1,7 +1,7 @@
 -- The words of the page of promises for merged readings: what `plan::merged` answers and leaves behind, and what `judge::merged_judgement` passes.
 use Rattle.std.specs.Prelude.{◌≡◌, true, ◌≤◌, ◌<◌, length, take}
 use Rattle.meaning.specs.declared.Mode.TheVariants.{Merged}
-use Rattle.meaning.specs.Returned.{Planned}
+use Rattle.meaning.specs.declared.Planned.{Planned}
 use Rattle.meaning.specs.Words.{Bytes, Slots}
 use Rattle.meaning.specs.Sheet.{probe_count}
 use Rattle.meaning.specs.Plan.{room_for, front}

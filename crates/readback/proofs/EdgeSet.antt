@@ -11,10 +11,11 @@ use Rattle.conflict.specs.Marks.{marked}
 use Rattle.conflict.proofs.Tables.{table_same, marked-table}
 use Rattle.graph.specs.declared.Line.{Line}
 use Rattle.graph.specs.declared.Line.TheVariants.{Comment, Problem, Edge, Other}
+use Rattle.graph.specs.declared.Reading.{Reading}
 use Rattle.graph.specs.Part.{newline, marks, part}
 use Rattle.graph.specs.Lines.{line_of}
 use Rattle.graph.specs.Table.{Table, no_edges, with_edge}
-use Rattle.graph.specs.Reading.{Reading, SoFar, unread, line_test, taken, faulty, table_after, after_line, line_read, lines_read, last_read, end_test, GraphRead}
+use Rattle.graph.specs.Reading.{SoFar, unread, line_test, taken, faulty, table_after, after_line, line_read, lines_read, last_read, end_test, GraphRead}
 use Rattle.graph.specs.Reading.{refused_graph, answered, ended, graph_read}
 use Rattle.readback.specs.Named.{names, named}
 

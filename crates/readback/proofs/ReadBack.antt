@@ -16,10 +16,11 @@ use Rattle.laws.proofs.Conflicting.{entry-table}
 use Rattle.conflict.specs.Marks.{marked}
 use Rattle.conflict.proofs.Tables.{table_same, entry_of, marked-table}
 use Rattle.graph.specs.declared.Line.TheVariants.{Problem, Edge}
+use Rattle.graph.specs.declared.Reading.{Reading}
 use Rattle.graph.specs.Part.{newline}
 use Rattle.graph.specs.Lines.{line_of}
 use Rattle.graph.specs.Table.{Table, no_edges, is_joined, with_edge, edges}
-use Rattle.graph.specs.Reading.{Reading, unread, next_line, may_stand, is_outside, is_astray, line_test, taken, table_after, line_read, last_read, end_test}
+use Rattle.graph.specs.Reading.{unread, next_line, may_stand, is_outside, is_astray, line_test, taken, table_after, line_read, last_read, end_test}
 use Rattle.graph.specs.Reading.{GraphRead, ended, graph_read}
 use Rattle.graph.specs.Drawing.{texts, problem_line, edge_line, edge_text, row_text, table_text}
 use Rattle.readback.proofs.LineSaid.{edge_words, problem_words, edge-one-line, problem-one-line, edge-line, problem-line, edge-read, problem-read}

@@ -9,7 +9,7 @@ ghost use Rattle.reader.specs.Noted.{two_set, noted, noted_sender, noted_slot, n
 use meaning::Slot;
 
 // Puts a number at a place, two bytes, high first.
-pub fn put_two(place: usize, number: u16, book: &mut [u8])
+fn put_two(place: usize, number: u16, book: &mut [u8])
     requires { place + 2 ≤ length book.old }
     ensures { book.new ≡ two_set place number book.old }
 {

@@ -1,3 +1,4 @@
 -- Laws that belong to no one function.
+pub mod PutWords
 pub mod Unsaid
 pub mod WordsLong

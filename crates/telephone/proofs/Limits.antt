@@ -10,8 +10,8 @@ use lib.Dec.{leb}
 use lib.ListN.{length, take}
 use borrow.Author.Tests.{leb-true, leb-false}
 use Rattle.meaning.specs.declared.Mode.TheVariants.{Packets}
-use Rattle.meaning.specs.Returned.{Told}
-use Rattle.meaning.specs.Returned.{Verdict}
+use Rattle.meaning.specs.declared.Told.{Told}
+use Rattle.meaning.specs.declared.Verdict.{Verdict}
 use Rattle.meaning.specs.Sheet.{deciding_sheet, least_slots}
 use Rattle.meaning.specs.Colour.{colours_used, probe_colours}
 use Rattle.meaning.specs.Plan.{plan_bytes, any_plan}

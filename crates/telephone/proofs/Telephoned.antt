@@ -7,8 +7,8 @@ use Prim.Native.Nat.{ℕ, ◌*◌, ◌≤◌, min}
 use native.Mathlib.Omega.{arith}
 use lib.ListN.{length, get_or}
 use Rattle.meaning.specs.declared.Mode.TheVariants.{Packets}
-use Rattle.meaning.specs.Returned.{Planned}
-use Rattle.meaning.specs.Returned.{Told}
+use Rattle.meaning.specs.declared.Planned.{Planned}
+use Rattle.meaning.specs.declared.Told.{Told}
 use Rattle.meaning.specs.Yard.{slowest_of, least_slots_of}
 use Rattle.meaning.specs.Sheet.{least_slots}
 use Rattle.meaning.specs.Plan.{any_plan}

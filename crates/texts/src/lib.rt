@@ -3,11 +3,11 @@
 
 ghost use Rattle.std.specs.Prelude.{◌≤◌, length};
 ghost use Rattle.graph.specs.Drawing.{graph_made};
-ghost use Rattle.graph.specs.Misreading.{graph_answer};
-ghost use Rattle.files.specs.Status.{answered, number_status, status_of, OrFailed};
+ghost use Rattle.files.specs.Status.{answered, number_status, status_of, OrFailed, IsStatus};
 
 use files::{Answer, Failed, Got, Source, Status, Stream, within};
-use graph::{Known, Misread};
+use graph::{Graph, Reading};
+use meaning::Outcome;
 use std::io::Error;
 
 // So much of a text is looked at together: a line and its newline must fit.
@@ -20,9 +20,6 @@ enum Unjudged {
     TooLong,
 }
 
-// What is known of a text, or its first faulty line.
-type Read = Result<Known, Misread>;
-
 // Writes the sheet's graph to its file, and says how long it is; a refusal leaves the file alone.
 pub fn write_graph(rt: &HostRuntime, to: Stream, out: usize, sheet: &[u8]) -> Status
     ensures { OrFailed (status_of (graph_made sheet.now 15081).answer.outcome) result }
@@ -34,7 +31,8 @@ pub fn write_graph(rt: &HostRuntime, to: Stream, out: usize, sheet: &[u8]) -> St
         files::write_file(rt, to, out, &text[..n])?;
     }
     let mut line = [0u8; wording::ANY_ANSWER];
-    let m = wording::written(&mut line, drawn);
+    let outcome = drawn.map_or_else(Outcome::from, |_| meaning::ACCEPTED);
+    let m = wording::written(&mut line, outcome, drawn.unwrap_or(0));
     files::say_answer(rt, to, &line[..m], &drawn)
 }
 
@@ -58,23 +56,23 @@ fn fill(from: &mut Source, piece: &mut [u8], kept: usize) -> Got
 }
 
 // What was read of a text at its end, if it is the end.
-fn at_end(got: Got, read: Read, piece: &[u8], at: usize) -> Result<Read, Unjudged> {
+fn at_end(got: Got, read: Reading, piece: &[u8], at: usize) -> Result<Reading, Unjudged> {
     got.whole().map_err(Unjudged::Unread)?;
     let behind = within(at, piece);
     Ok(parse::last_read(read, &piece[behind..]))
 }
 
 // Reads a text piece by piece, to its end or to its first faulty line.
-fn read_text(from: &mut Source, table: &mut [[bool; 65]; 65]) -> Result<Read, Unjudged> {
+fn read_text(from: &mut Source, table: &mut [[bool; 65]; 65]) -> Result<Reading, Unjudged> {
     let mut piece = [0u8; PIECE];
     let mut kept = 0;
-    let mut read = Ok(parse::unread(table));
+    let mut read = parse::unread(table);
     for _ in 0..u64::MAX {
         let got = fill(from, &mut piece, kept);
         let n = got.bytes;
         let stepped = parse::lines_after(read, &piece[..n], table);
         read = stepped.read;
-        if read.is_err() {
+        if read.number != 0 {
             return Ok(read);
         }
         if n < PIECE {
@@ -98,17 +96,15 @@ fn say_table(rt: &HostRuntime, vertices: u8, table: &[[bool; 65]; 65]) -> Status
 }
 
 // Says what a text is: refused, or a table.
-fn say_graph(rt: &HostRuntime, graph: Result<u8, Misread>, table: &[[bool; 65]; 65]) -> Status
-    ensures { OrFailed (number_status (graph_answer graph).number) result }
+fn say_graph(rt: &HostRuntime, graph: Graph, table: &[[bool; 65]; 65]) -> Status
+    ensures { OrFailed (number_status graph.number) result }
 {
-    match graph {
-        Ok(vertices) => say_table(rt, vertices, table),
-        Err(misread) => {
-            let mut line = [0u8; wording::ANY_ANSWER];
-            let n = wording::misread(&mut line, misread.fault.number(), misread.place);
-            files::say(rt, Stream::Output, &line[..n], Ok(Answer::Refused))
-        }
+    if graph.number == 0 {
+        return say_table(rt, graph.vertices, table);
     }
+    let mut line = [0u8; wording::ANY_ANSWER];
+    let n = wording::misread(&mut line, graph.number, graph.place);
+    files::say(rt, Stream::Output, &line[..n], Ok(Answer::Refused))
 }
 
 // Says why a text is not judged.
@@ -126,7 +122,9 @@ fn say_unjudged(rt: &HostRuntime, why: Unjudged, path: &[u8]) -> Failed {
 }
 
 // Judges a text and shows its table; a text that is not seen whole gets no verdict.
-fn show(rt: &HostRuntime, path: &[u8]) -> Status {
+fn show(rt: &HostRuntime, path: &[u8]) -> Status
+    ensures { IsStatus result }
+{
     let mut source = files::open_named(rt, Stream::Output, path)?;
     let mut table = [[false; 65]; 65];
     let read = read_text(&mut source, &mut table).map_err(|why| say_unjudged(rt, why, path))?;
@@ -135,7 +133,9 @@ fn show(rt: &HostRuntime, path: &[u8]) -> Status {
 }
 
 // The same of the file that argument i names.
-pub fn show_table(rt: &HostRuntime, i: usize) -> Status {
+pub fn show_table(rt: &HostRuntime, i: usize) -> Status
+    ensures { IsStatus result }
+{
     let mut path = files::name_room();
     let n = files::name_to_read(rt, Stream::Output, i, &mut path)?;
     show(rt, &path[..n])

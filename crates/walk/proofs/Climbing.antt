@@ -1,13 +1,16 @@
 -- What a walk answers at the gateway, with no hop left, and after a hop: each law goes by what the definitions say of one hop.
-use mathlib.Core.Path.{◌≡◌, refl, sym, ap, ◌∙◌, subst}
+use mathlib.Core.Path.{◌≡◌, refl, sym, ap, ap₂, ◌∙◌, subst}
 use mathlib.Core.Bool.{Bool, true, false, cond}
-use Prim.Native.Nat.{ℕ, suc, ◌+◌, ◌-◌, ◌≤◌}
+use Prim.Native.Nat.{ℕ, suc, ◌+◌, ◌-◌, ◌*◌, ◌≤◌, ◌<◌, max}
+use native.Mathlib.Nat.{mul-le-mul, max-eq_left, max-eq_right, le_of_lt}
 use native.Mathlib.Numerals.{add-one}
 use native.Mathlib.Omega.{arith}
 use borrow.Author.Tests.{ne_eqb}
 use Rattle.meaning.specs.declared.Level.{Level}
 use Rattle.std.specs.Prelude.{Option, Some, None}
 use Rattle.meaning.specs.Yard.{reaches, climb, climbed}
+use Rattle.meaning.specs.Words.{most}
+use Rattle.laws.proofs.Turns.{most-one}
 use Rattle.laws.proofs.Walk.{reaches_here, climb-here, reaches-on, climb-on, climb-most, climb-never}
 
 -- the answer of a walk from the answer of the walk from its parent
@@ -58,3 +61,14 @@ module _ (parent : ℕ → ℕ) where
   pub climbed-most : (left v : ℕ) (walk : Option Level) (level : Level) → walk ≡ climbed parent left v → walk ≡ Some level → level.0 ≤ left
   climbed-most left v walk level e is =
       subst (λ (n : ℕ). n ≤ left) (sym (ap (level_in left) (sym is ∙ e) ∙ climbed-level left v)) (climb-most parent left v)
+
+-- what a product of two bytes comes to at most
+pub product-most : (a b : ℕ) → a < 256 → b < 256 → a * b ≤ 65025
+product-most a b ha hb = mul-le-mul {n₁ = a} {m₁ = b} {n₂ = 255} {m₂ = 255} (omega arith) (omega arith)
+
+-- the larger of the most so far and one more
+pub most-larger : (i : ℕ) (f : ℕ → ℕ) (deepest level : ℕ) → deepest ≡ most i f → level ≡ f i → deepest < level → level ≡ most (i + 1) f
+most-larger i f deepest level e q h = sym (max-eq_right (le_of_lt h)) ∙ ap₂ max e q ∙ sym (most-one i f)
+
+pub most-stays : (i : ℕ) (f : ℕ → ℕ) (deepest level : ℕ) → deepest ≡ most i f → level ≡ f i → level ≤ deepest → deepest ≡ most (i + 1) f
+most-stays i f deepest level e q h = sym (max-eq_left h) ∙ ap₂ max e q ∙ sym (most-one i f)

@@ -9,15 +9,10 @@ use lib.Dec.{eqb, ltb}
 use lib.ListN.{length}
 use Rattle.meaning.specs.declared.Mode.{Mode}
 use Rattle.meaning.specs.declared.Mode.TheVariants.{Packets}
-use Rattle.std.specs.Prelude.{Result, Ok, Err}
-use Rattle.meaning.specs.declared.Refusal.{Refusal}
-use Rattle.meaning.specs.Answer.{accepted}
-use Rattle.meaning.specs.Results.{outcome_of}
-use Rattle.wording.specs.Worded.{written_said}
 use Rattle.meaning.specs.declared.Outcome.{Outcome}
-use Rattle.meaning.specs.Returned.{Planned}
+use Rattle.meaning.specs.declared.Planned.{Planned}
 use Rattle.meaning.specs.declared.Names.{Names}
-use Rattle.meaning.specs.Returned.{Judgement}
+use Rattle.meaning.specs.declared.Judgement.{Judgement}
 use Rattle.meaning.specs.declared.Choice.{Choice}
 use Rattle.meaning.specs.declared.Choice.TheVariants.{Neither, First, Second}
 use Rattle.meaning.specs.Answer.{is_accepted}
@@ -136,7 +131,3 @@ written-most outcome bytes = omega (arith, (written-long outcome bytes).short)
 
 pub misread-most : (number place : ℕ) → length (misread_line number place) ≤ 256
 misread-most number place = omega (arith, (misread-long number place).short)
-
-pub written-said-most : (written : Result ℕ Refusal) → length (written_said written) ≤ 256
-written-said-most (Ok bytes) = written-most accepted bytes
-written-said-most (Err refusal) = written-most (outcome_of refusal) 0

@@ -1,16 +1,15 @@
 -- RULES, "The answers in words": what the front door says of the answers of "Numbers returned", in the words of docs/NUMBERS.md.
-use Rattle.std.specs.Prelude.{Result, Ok, Err, Bool, cond, ◌&&◌, [], ◌++◌, ℕ, min, eqb, ltb}
+use Rattle.std.specs.Prelude.{Bool, cond, ◌&&◌, [], ◌++◌, ℕ, min, eqb, ltb}
 use Rattle.meaning.specs.declared.Mode.{Mode}
 use Rattle.meaning.specs.declared.Mode.TheVariants.{Packets}
-use Rattle.meaning.specs.declared.Refusal.{Refusal}
 use Rattle.meaning.specs.declared.Outcome.{Outcome}
-use Rattle.meaning.specs.Returned.{Planned, Judgement}
+use Rattle.meaning.specs.declared.Planned.{Planned}
 use Rattle.meaning.specs.declared.Names.{Names}
+use Rattle.meaning.specs.declared.Judgement.{Judgement}
 use Rattle.meaning.specs.declared.Choice.{Choice}
 use Rattle.meaning.specs.declared.Choice.TheVariants.{Neither, First, Second}
 use Rattle.meaning.specs.Words.{Bytes}
-use Rattle.meaning.specs.Answer.{accepted, is_accepted}
-use Rattle.meaning.specs.Results.{outcome_of}
+use Rattle.meaning.specs.Answer.{is_accepted}
 use Rattle.meaning.specs.Lister.{text, decimal, said, refusal}
 use Rattle.sayings.specs.Saying.{saying_in}
 
@@ -82,11 +81,6 @@ choice_text choice first second =
 -- "The answers in words": what is said where a text, a sheet or a book is written
 unfoldable pub written_line : Outcome → (bytes : ℕ) → Bytes
 written_line outcome bytes = cond (is_accepted outcome) (text "written " ++ decimal 20 bytes ++ text " bytes\n") (refused_line outcome)
-
--- the same of what the code answers
-abbrev pub written_said : Result ℕ Refusal → Bytes
-written_said (Ok bytes) = written_line accepted bytes
-written_said (Err refusal) = written_line (outcome_of refusal) 0
 
 -- "The answers in words": the refusal of a text, whose place may have twenty digits
 unfoldable pub misread_line : (number place : ℕ) → Bytes

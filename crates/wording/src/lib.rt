@@ -3,14 +3,13 @@
 
 ghost use Rattle.std.specs.Prelude.{◌≡◌, ◌++◌, ◌≤◌, min, length, take};
 ghost use Rattle.meaning.specs.Lister.{text, refusal};
-ghost use Rattle.meaning.specs.Results.{plan_answer, judge_answer};
 ghost use Rattle.lines.specs.Line.{line_length, line_in};
 ghost use Rattle.lines.specs.Text.{Says};
 ghost use Rattle.wording.specs.Worded.{of_senders, subject, said_of, any_senders, the_senders, named_senders};
-ghost use Rattle.wording.specs.Worded.{refused_line, blamed_line, planned_line, verdict_line, choice_line, choice_text, written_said, misread_line};
+ghost use Rattle.wording.specs.Worded.{refused_line, blamed_line, planned_line, verdict_line, choice_line, choice_text, written_line, misread_line};
 
 use lines::{Answer, said};
-use meaning::{Blame, Choice, Mode, Names, Outcome, Plan, Refusal};
+use meaning::{Choice, Judgement, Mode, Names, Outcome, Planned};
 
 // Room for any answer.
 pub const ANY_ANSWER: usize = lines::ANY_ANSWER;
@@ -98,37 +97,31 @@ fn say_blamed(answer: &mut Answer, mode: Mode, outcome: Outcome, names: Names)
 }
 
 // Says the line of a planner's answer; no plan of ours has more bytes than a u16 counts.
-fn say_planned(answer: &mut Answer, planned: Result<Plan, Refusal>)
-    ensures { Says 256 answer.old (planned_line (plan_answer planned)) answer.new }
+fn say_planned(answer: &mut Answer, planned: Planned)
+    ensures { Says 256 answer.old (planned_line planned) answer.new }
 {
-    match planned {
-        Err(refusal) => say_refused(answer, Outcome::from(refusal)),
-        Ok(plan) => {
-            let slots = plan.slots;
-            let colours = plan.colours as u16;
-            let bytes = plan.bytes.min(65535) as u16;
-            answer.counted(b"planned ", slots);
-            answer.counted(b" slots, ", colours);
-            answer.counted(b" colours, ", bytes);
-            answer.words(b" bytes\n");
-        }
+    if planned.outcome.number != 0 {
+        return say_refused(answer, planned.outcome);
     }
+    let slots = planned.slots;
+    let colours = planned.colours as u16;
+    let bytes = planned.bytes.min(65535) as u16;
+    answer.counted(b"planned ", slots);
+    answer.counted(b" slots, ", colours);
+    answer.counted(b" colours, ", bytes);
+    answer.words(b" bytes\n");
 }
 
 // Says the line of the answer of a mode's judge.
-fn say_verdict(answer: &mut Answer, mode: Mode, judged: Result<u16, Blame>)
-    ensures { Says 256 answer.old (verdict_line mode (judge_answer judged)) answer.new }
+fn say_verdict(answer: &mut Answer, mode: Mode, judgement: Judgement)
+    ensures { Says 256 answer.old (verdict_line mode judgement) answer.new }
 {
-    match judged {
-        Err(blame) => {
-            let outcome = Outcome::from(blame.refusal);
-            say_blamed(answer, mode, outcome, blame.names)
-        }
-        Ok(slots) => {
-            answer.counted(b"passed ", slots);
-            answer.words(b" slots\n");
-        }
+    let verdict = judgement.verdict;
+    if verdict.outcome.number != 0 {
+        return say_blamed(answer, mode, verdict.outcome, judgement.names);
     }
+    answer.counted(b"passed ", verdict.slots);
+    answer.words(b" slots\n");
 }
 
 // Says which of two plans was chosen.
@@ -143,13 +136,8 @@ fn say_choice(answer: &mut Answer, choice: Choice)
 }
 
 // Says the choice and the judge's answer on both plans.
-fn say_chosen(
-    answer: &mut Answer,
-    choice: Choice,
-    first: Result<u16, Blame>,
-    second: Result<u16, Blame>,
-)
-    ensures { Says 256 answer.old (choice_text choice (judge_answer first) (judge_answer second)) answer.new }
+fn say_chosen(answer: &mut Answer, choice: Choice, first: Judgement, second: Judgement)
+    ensures { Says 256 answer.old (choice_text choice first second) answer.new }
 {
     say_choice(answer, choice);
     answer.words(b"first: ");
@@ -159,17 +147,15 @@ fn say_chosen(
 }
 
 // Says the line of who writes a text, a sheet or a book, by how many bytes it has.
-fn say_written(answer: &mut Answer, written: Result<usize, Refusal>)
-    ensures { Says 256 answer.old (written_said written) answer.new }
+fn say_written(answer: &mut Answer, outcome: Outcome, bytes: usize)
+    ensures { Says 256 answer.old (written_line outcome bytes) answer.new }
 {
-    match written {
-        Err(refusal) => say_refused(answer, Outcome::from(refusal)),
-        Ok(bytes) => {
-            answer.words(b"written ");
-            answer.long(bytes as u64);
-            answer.words(b" bytes\n");
-        }
+    if outcome.number != 0 {
+        return say_refused(answer, outcome);
     }
+    answer.words(b"written ");
+    answer.long(bytes as u64);
+    answer.words(b" bytes\n");
 }
 
 // Says the refusal of a text.
@@ -190,48 +176,53 @@ pub fn refused(out: &mut [u8], outcome: Outcome) -> usize
     ensures answer { result ≡ line_length out.old (refused_line outcome) }
     ensures buffer { out.new ≡ line_in out.old (refused_line outcome) }
 {
-    said(out, |answer| say_refused(answer, outcome))
+    let mut answer = Answer::new();
+    say_refused(&mut answer, outcome);
+    said(out, &answer)
 }
 
 // The same of a planner's answer.
-pub fn planned(out: &mut [u8], planned: Result<Plan, Refusal>) -> usize
+pub fn planned(out: &mut [u8], planned: Planned) -> usize
     ensures part { (result ≤ length out.new) × (result ≡ length (take result out.new)) }
-    ensures answer { result ≡ line_length out.old (planned_line (plan_answer planned)) }
-    ensures buffer { out.new ≡ line_in out.old (planned_line (plan_answer planned)) }
+    ensures answer { result ≡ line_length out.old (planned_line planned) }
+    ensures buffer { out.new ≡ line_in out.old (planned_line planned) }
 {
-    said(out, |answer| say_planned(answer, planned))
+    let mut answer = Answer::new();
+    say_planned(&mut answer, planned);
+    said(out, &answer)
 }
 
 // The same of the answer of a mode's judge.
-pub fn verdict(out: &mut [u8], mode: Mode, judged: Result<u16, Blame>) -> usize
+pub fn verdict(out: &mut [u8], mode: Mode, judgement: Judgement) -> usize
     ensures part { (result ≤ length out.new) × (result ≡ length (take result out.new)) }
-    ensures answer { result ≡ line_length out.old (verdict_line mode (judge_answer judged)) }
-    ensures buffer { out.new ≡ line_in out.old (verdict_line mode (judge_answer judged)) }
+    ensures answer { result ≡ line_length out.old (verdict_line mode judgement) }
+    ensures buffer { out.new ≡ line_in out.old (verdict_line mode judgement) }
 {
-    said(out, |answer| say_verdict(answer, mode, judged))
+    let mut answer = Answer::new();
+    say_verdict(&mut answer, mode, judgement);
+    said(out, &answer)
 }
 
 // The same of a choice and the judge's answers on both plans.
-pub fn chosen(
-    out: &mut [u8],
-    choice: Choice,
-    first: Result<u16, Blame>,
-    second: Result<u16, Blame>,
-) -> usize
+pub fn chosen(out: &mut [u8], choice: Choice, first: Judgement, second: Judgement) -> usize
     ensures part { (result ≤ length out.new) × (result ≡ length (take result out.new)) }
-    ensures answer { result ≡ line_length out.old (choice_text choice (judge_answer first) (judge_answer second)) }
-    ensures buffer { out.new ≡ line_in out.old (choice_text choice (judge_answer first) (judge_answer second)) }
+    ensures answer { result ≡ line_length out.old (choice_text choice first second) }
+    ensures buffer { out.new ≡ line_in out.old (choice_text choice first second) }
 {
-    said(out, |answer| say_chosen(answer, choice, first, second))
+    let mut answer = Answer::new();
+    say_chosen(&mut answer, choice, first, second);
+    said(out, &answer)
 }
 
 // The same of the answer of who writes a text, a sheet or a book.
-pub fn written(out: &mut [u8], written: Result<usize, Refusal>) -> usize
+pub fn written(out: &mut [u8], outcome: Outcome, bytes: usize) -> usize
     ensures part { (result ≤ length out.new) × (result ≡ length (take result out.new)) }
-    ensures answer { result ≡ line_length out.old (written_said written) }
-    ensures buffer { out.new ≡ line_in out.old (written_said written) }
+    ensures answer { result ≡ line_length out.old (written_line outcome bytes) }
+    ensures buffer { out.new ≡ line_in out.old (written_line outcome bytes) }
 {
-    said(out, |answer| say_written(answer, written))
+    let mut answer = Answer::new();
+    say_written(&mut answer, outcome, bytes);
+    said(out, &answer)
 }
 
 // The same of a text that is refused.
@@ -240,5 +231,7 @@ pub fn misread(out: &mut [u8], number: u8, place: u64) -> usize
     ensures answer { result ≡ line_length out.old (misread_line number place) }
     ensures buffer { out.new ≡ line_in out.old (misread_line number place) }
 {
-    said(out, |answer| say_misread(answer, number, place))
+    let mut answer = Answer::new();
+    say_misread(&mut answer, number, place);
+    said(out, &answer)
 }

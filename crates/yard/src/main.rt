@@ -5,7 +5,7 @@
 ghost use Rattle.std.specs.Prelude.{◌<◌};
 
 use files::{Answer, Failed, Status, Stream};
-use meaning::{Blame, Choice, Limits, Mode, Outcome, Plan, Refusal};
+use meaning::{Blame, Choice, Judgement, Mode, Outcome, Plan, Planned, Refusal, Told};
 use std::process::ExitCode;
 
 // The arguments; in front of them stands what the starting script knows of an output (`files`).
@@ -58,25 +58,27 @@ fn taking(command: Command, least: usize, most: usize, made: Option<usize>) -> F
     }
 }
 
-// The command of a word.
+// The command of a word, by its place among the words.
 fn form_of(word: &[u8]) -> Option<Form> {
-    let form = match word {
-        b"ask" => taking(Command::Ask, 4, 5, None),
-        b"list" => taking(Command::List, 4, 4, None),
-        b"probe" => taking(Command::ByProbe, 5, 5, Some(PLAN)),
-        b"level" => taking(Command::ByLevel, 5, 5, Some(PLAN)),
-        b"judge" => taking(Command::Judge, 5, 5, None),
-        b"choose" => taking(Command::Choose, 6, 7, Some(OUT)),
-        b"graph" => taking(Command::Graph, 5, 5, Some(PLAN)),
-        b"table" => taking(Command::Table, 4, 4, None),
-        b"worst" => taking(Command::Worst, 5, 5, Some(PLAN)),
-        b"best" => taking(Command::Best, 5, 5, Some(PLAN)),
-        b"book" => taking(Command::Book, 5, 6, Some(SECOND)),
-        b"merged" => taking(Command::Merged, 5, 5, Some(PLAN)),
-        b"merged-judge" => taking(Command::MergedJudge, 5, 5, None),
-        b"merged-ask" => taking(Command::MergedAsk, 4, 5, None),
-        b"--help" => taking(Command::Help, 3, 3, None),
-        b"--version" => taking(Command::Version, 3, 3, None),
+    let words =
+        b"ask list probe level judge choose graph table worst best book merged merged-judge merged-ask --help --version";
+    let form = match grammar::place_of(words, 16, word) {
+        0 => taking(Command::Ask, 4, 5, None),
+        1 => taking(Command::List, 4, 4, None),
+        2 => taking(Command::ByProbe, 5, 5, Some(PLAN)),
+        3 => taking(Command::ByLevel, 5, 5, Some(PLAN)),
+        4 => taking(Command::Judge, 5, 5, None),
+        5 => taking(Command::Choose, 6, 7, Some(OUT)),
+        6 => taking(Command::Graph, 5, 5, Some(PLAN)),
+        7 => taking(Command::Table, 4, 4, None),
+        8 => taking(Command::Worst, 5, 5, Some(PLAN)),
+        9 => taking(Command::Best, 5, 5, Some(PLAN)),
+        10 => taking(Command::Book, 5, 6, Some(SECOND)),
+        11 => taking(Command::Merged, 5, 5, Some(PLAN)),
+        12 => taking(Command::MergedJudge, 5, 5, None),
+        13 => taking(Command::MergedAsk, 4, 5, None),
+        14 => taking(Command::Help, 3, 3, None),
+        15 => taking(Command::Version, 3, 3, None),
         _ => return None,
     };
     Some(form)
@@ -95,13 +97,11 @@ fn is_complete(rt: &HostRuntime, form: &Form, count: usize) -> bool {
 }
 
 // Puts how long a reading of the sheet takes, in minutes too where it is said how long a slot is, and how long otherwise arranged; says where it ends.
-fn put_asked(
-    rt: &HostRuntime,
-    sheet: &[u8],
-    told: Result<Limits, Refusal>,
-    text: &mut [u8],
-) -> usize {
+fn put_asked(rt: &HostRuntime, sheet: &[u8], told: Told, text: &mut [u8]) -> usize {
     let n = dealer::asked(text, told, slot_length(rt));
+    if told.outcome.number != 0 {
+        return n;
+    }
     match arrangement::spread_of(sheet) {
         Ok(spread) => n + dealer::spread(&mut text[n..], spread.best, spread.worst),
         Err(_) => n,
@@ -110,11 +110,21 @@ fn put_asked(
 
 // Says so, two lines in one write.
 fn ask(rt: &HostRuntime, sheet: &[u8]) -> Status {
-    let told = telephone::ask(sheet);
+    let told = Told::from(telephone::ask(sheet));
     let mut text = [0u8; 2 * wording::ANY_ANSWER];
     let n = put_asked(rt, sheet, told, &mut text);
     let end = files::within(n, &text);
-    files::say_answer(rt, Stream::Output, &text[..end], &told)
+    files::say(
+        rt,
+        Stream::Output,
+        &text[..end],
+        Ok(Answer::from(told.outcome)),
+    )
+}
+
+// The number and place of the sheet's refusal, or of none.
+fn tested(sheet: &[u8]) -> Outcome {
+    sheet::read(sheet).map_or_else(Outcome::from, |_| meaning::ACCEPTED)
 }
 
 // Hangs the probes of the sheet otherwise: writes the sheet that is made to its file, and says how long it is; a refusal leaves the file alone.
@@ -128,13 +138,13 @@ fn hang<F: FnOnce(&[u8], &mut [u8]) -> usize>(
 {
     let mut made = [0u8; arrangement::LONGEST_SHEET];
     let n = files::within(arranged(sheet, &mut made), &made);
-    let written = sheet::read(sheet).map(|_| n);
-    if written.is_ok() {
+    let outcome = tested(sheet);
+    if outcome.number == 0 {
         files::write_file(rt, to, PLAN, &made[..n])?;
     }
     let mut line = [0u8; wording::ANY_ANSWER];
-    let m = wording::written(&mut line, written);
-    files::say_answer(rt, to, &line[..m], &written)
+    let m = wording::written(&mut line, outcome, n);
+    files::say(rt, to, &line[..m], Ok(Answer::from(outcome)))
 }
 
 // Lists the sheet; a refusal is said with its meaning.
@@ -144,7 +154,7 @@ fn list(rt: &HostRuntime, sheet: &[u8]) -> Status {
         let n = wording::refused(&mut line, Outcome::from(refusal));
         return files::say(rt, Stream::Output, &line[..n], Ok(Answer::Refused));
     }
-    let mut text = files::room::<{ meaning::ANY_TEXT }>();
+    let mut text = files::text_room();
     let n = listing::list(sheet, &mut text);
     files::say(rt, Stream::Output, &text[..n], Ok(Answer::Answered))
 }
@@ -157,29 +167,40 @@ fn make_plan<F: FnOnce(&[u8], &mut [u8]) -> Result<Plan, Refusal>>(
 ) -> Status
     requires { F.IsAlwaysCallable planner }
 {
-    let mut plan = files::room::<{ meaning::DECIDING_PLAN }>();
+    let mut plan = files::plan_room();
     let planned = planner(sheet, &mut plan);
-    plans::write_planned(rt, to, PLAN, planned, &plan)
+    plans::write_planned(rt, to, PLAN, Planned::from(planned), &plan)
 }
 
-// Judges the plan in a file, whose first N bytes decide every verdict of its mode.
-fn judge<const N: usize, F: FnOnce(&[u8], &[u8]) -> Result<u16, Blame>>(
+// Judges the plan in a file, read into a room of its mode.
+fn judge<F: FnOnce(&[u8], &[u8]) -> Result<u16, Blame>>(
     rt: &HostRuntime,
     sheet: &[u8],
     mode: Mode,
+    plan: &mut [u8],
     judged: F,
 ) -> Status
-    requires room { N < 9223372036854775808 }
-    requires judged { F.IsAlwaysCallable judged }
+    requires { F.IsAlwaysCallable judged }
 {
-    let mut plan = files::room::<N>();
-    let n = files::read_file(rt, Stream::Output, PLAN, &mut plan)?;
-    plans::say_judgement(rt, mode, judged(sheet, &plan[..n]))
+    let n = files::read_file(rt, Stream::Output, PLAN, plan)?;
+    plans::say_judgement(rt, mode, Judgement::from(judged(sheet, &plan[..n])))
+}
+
+// Judges a plan of packets; its first 96,032 bytes decide every verdict.
+fn judge_packets(rt: &HostRuntime, sheet: &[u8]) -> Status {
+    let mut plan = files::plan_room();
+    judge(rt, sheet, Mode::Packets, &mut plan, judge::judgement)
+}
+
+// Judges a merged plan; its first 65,855 bytes decide every verdict.
+fn judge_merged(rt: &HostRuntime, sheet: &[u8]) -> Status {
+    let mut plan = plans::merged_room();
+    judge(rt, sheet, Mode::Merged, &mut plan, judge::merged_judgement)
 }
 
 // Makes the wake book of the plan in a file: into a file where one is named, else in words.
 fn book(rt: &HostRuntime, to: Stream, sheet: &[u8]) -> Status {
-    let mut plan = files::room::<{ meaning::DECIDING_PLAN }>();
+    let mut plan = files::plan_room();
     let n = files::read_file(rt, to, PLAN, &mut plan)?;
     if files::arg_count(rt) == 6 {
         return books::write_book(rt, to, SECOND, sheet, &plan[..n]);
@@ -196,8 +217,8 @@ fn say_choice(
     second: &[u8],
     choice: Choice,
 ) -> Status {
-    let on_first = judge::judgement(sheet, first);
-    let on_second = judge::judgement(sheet, second);
+    let on_first = Judgement::from(judge::judgement(sheet, first));
+    let on_second = Judgement::from(judge::judgement(sheet, second));
     let answer = match choice {
         Choice::Neither => Answer::Refused,
         _ => Answer::Answered,
@@ -218,9 +239,9 @@ fn keep_choice(rt: &HostRuntime, to: Stream, sheet: &[u8], first: &[u8], second:
 
 // Chooses between the plans in two files.
 fn choose(rt: &HostRuntime, to: Stream, sheet: &[u8]) -> Status {
-    let mut first = files::room::<{ meaning::DECIDING_PLAN }>();
+    let mut first = files::plan_room();
     let n = files::read_file(rt, to, PLAN, &mut first)?;
-    let mut second = files::room::<{ meaning::DECIDING_PLAN }>();
+    let mut second = files::plan_room();
     let m = files::read_file(rt, to, SECOND, &mut second)?;
     keep_choice(rt, to, sheet, &first[..n], &second[..m])
 }
@@ -252,24 +273,14 @@ fn answer_on(rt: &HostRuntime, what: Command, to: Stream, sheet: &[u8]) -> Statu
         Command::List => list(rt, sheet),
         Command::ByProbe => make_plan(rt, to, sheet, plan::by_probe),
         Command::ByLevel => make_plan(rt, to, sheet, plan::by_level),
-        Command::Judge => judge::<{ meaning::DECIDING_PLAN }, _>(
-            rt,
-            sheet,
-            Mode::Packets,
-            judge::judgement,
-        ),
+        Command::Judge => judge_packets(rt, sheet),
         Command::Choose => choose(rt, to, sheet),
         Command::Graph => texts::write_graph(rt, to, PLAN, sheet),
         Command::Worst => hang(rt, to, sheet, arrangement::worst_sheet),
         Command::Best => hang(rt, to, sheet, arrangement::best_sheet),
         Command::Book => book(rt, to, sheet),
         Command::Merged => plans::write_merged(rt, to, PLAN, sheet),
-        Command::MergedJudge => judge::<{ meaning::DECIDING_MERGED }, _>(
-            rt,
-            sheet,
-            Mode::Merged,
-            judge::merged_judgement,
-        ),
+        Command::MergedJudge => judge_merged(rt, sheet),
         Command::MergedAsk => plans::say_merged_asked(rt, sheet, slot_length(rt)),
         Command::Table | Command::Help | Command::Version => Err(Failed),
     }

@@ -1,5 +1,5 @@
 -- `book::begin` meets its contract: the two tests decide whether a count has room at the place.
-use Rattle.std.proofs.Common.{sym, ◌∙◌, arith}
+use Rattle.std.proofs.Common.{sym, arith}
 use Rattle.book.proofs.LayingOut.{no-begin, begin-there}
 use Rattle.book.proofs.begin.Goals as goal
 use Rattle.book.proofs.begin.Goals.{then-room-lt2-via-then-room-lt2, then-room-lt2-via-else-room-lt2+then-room-place}
@@ -15,4 +15,4 @@ returns-then-room-lt2 c =
 pub returns : goal.returns
 returns c =
     let a = c.args in
-    c.put_two.ensures ∙ sym (begin-there a.place a.book.now (omega arith))
+    sym (begin-there a.place a.book.now (omega arith))

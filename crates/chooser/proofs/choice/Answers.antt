@@ -1,7 +1,7 @@
 -- `chooser::choice` meets its contract: the choice between the two verdicts, without their names.
 use mathlib.Core.Path.{ap}
-use Rattle.meaning.specs.Returned.{Verdict}
-use Rattle.meaning.specs.Returned.{Judgement}
+use Rattle.meaning.specs.declared.Verdict.{Verdict}
+use Rattle.meaning.specs.declared.Judgement.{Judgement}
 use Rattle.meaning.specs.Judge.{judgement_in}
 use Rattle.chooser.proofs.Choosing.{chosen}
 use Rattle.chooser.proofs.choice.Goals as goal

@@ -1,23 +1,20 @@
 -- `dealer::asked` meets its contract: a refusal has its line, and the four sentences are said whole, since they have room.
-use mathlib.Core.Path.{ap, ◌∙◌}
-use Rattle.meaning.specs.declared.Outcome.{Outcome}
-use Rattle.lines.specs.Line.{line_length, line_in}
-use Rattle.wording.specs.Worded.{refused_line}
-use Rattle.laws.proofs.Refused.{refused}
-use Rattle.std.proofs.Common.{rules}
 use Rattle.lines.proofs.OwnLine.{said-whole}
-use Rattle.dealer.specs.Sentences.{asked_text}
-use Rattle.dealer.proofs.Spoken.{sentences-most}
+use Rattle.dealer.specs.Sentences.{sentences, asked_text}
+use Rattle.dealer.proofs.Spoken.{sentences-most, refused-told, answer-told}
 use Rattle.dealer.proofs.asked.Goals as goal
 
-pub returns-in-Err : goal.returns-in-Err
+pub returns-then-outcome-ne0 : goal.returns-then-outcome-ne0
 unfolding asked_text
-returns-in-Err c =
-    let refusal = refused c.in-Err.refusal in
-    record { part = c.refused.ensures.part; answer = rw (c.in-Err.is, refusal) (c.refused.ensures.answer ∙ ap (λ (o : Outcome). line_length c.args.out.now (refused_line o)) c.from.ensures); buffer = rw (c.in-Err.is, refusal) (c.refused.ensures.buffer ∙ ap (λ (o : Outcome). line_in c.args.out.now (refused_line o)) c.from.ensures) }
+returns-then-outcome-ne0 c =
+    let told = c.args.told in
+    let line = refused-told told.outcome (sentences told c.args.ms) c.if-outcome-ne0.true in
+    record { part = c.refused.ensures.part; answer = rw line c.refused.ensures.answer; buffer = rw line c.refused.ensures.buffer }
 
-pub returns-in-Ok : goal.returns-in-Ok
+pub returns : goal.returns
 unfolding asked_text
-returns-in-Ok c =
-    let all = said-whole (sentences-most _ _) (λ p q met. search rules) c.said.ensures in
-    record { part = all.part; answer = rw c.in-Ok.is all.answer; buffer = rw c.in-Ok.is all.buffer }
+returns c =
+    let told = c.args.told in
+    let line = answer-told told.outcome (sentences told c.args.ms) c.if-outcome-ne0.false in
+    let all = said-whole (sentences-most _ _) c.new-answer.ensures c.say_sentences.ensures c.said.ensures in
+    record { part = all.part; answer = rw line all.answer; buffer = rw line all.buffer }

@@ -1,5 +1,5 @@
--- `lines::said` meets its contract: the step is called on an empty text, and what it leaves there is copied as a whole, or not at all.
-use mathlib.Core.Path.{refl, subst}
+-- `lines::said` meets its contract: the text is copied as a whole, or not at all.
+use mathlib.Core.Path.{subst}
 use mathlib.Core.List.{List}
 use Prim.Native.Nat.{ℕ}
 use Rattle.lines.specs.Line.{fitting, Put}
@@ -7,11 +7,7 @@ use Rattle.lines.proofs.OwnLine.{copied}
 use Rattle.lines.proofs.said.Goals as goal
 
 pub returns : goal.returns
-returns g c =
-    let text = c.say.new.arg2 in
+returns c =
     let put = subst (λ (b : List ℕ). Put c.args.out.now 0 (fitting c.args.out.now 0 b) c.put_words.new.out c.put_words.result) c.as_slice.ensures c.put_words.ensures in
-    let all = copied text put in (
-      text,
-      record { shown = _; shows = c.new-text.ensures; left = _; met = c.say.ensures; leaves = refl },
-      record { part = all.0; answer = all.1.0; buffer = all.1.1 },
-    )
+    let all = copied c.args.text.now put in
+    record { part = all.0; answer = all.1.0; buffer = all.1.1 }

@@ -1,6 +1,7 @@
--- `plans::say_judgement` meets its contract: the status of what was judged is that of its answer.
-use Rattle.files.proofs.Statuses.{judge-status}
+-- `plans::say_judgement` meets its contract: the status is that of the judgement's number.
+use mathlib.Core.Path.{subst}
+use Rattle.files.specs.Status.{Status, OrFailed}
 use Rattle.plans.proofs.say_judgement.Goals as goal
 
 pub returns : goal.returns
-returns c = rw (← judge-status c.args.judged) c.say_answer.ensures
+returns c = subst (λ (s : Status). OrFailed s c.say.result) c.from.ensures c.say.ensures

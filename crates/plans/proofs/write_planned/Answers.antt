@@ -1,6 +1,7 @@
--- `plans::write_planned` meets its contract: the status of what was made is that of its answer.
-use Rattle.files.proofs.Statuses.{plan-status}
+-- `plans::write_planned` meets its contract: the status is that of the plan's number.
+use mathlib.Core.Path.{subst}
+use Rattle.files.specs.Status.{Status, OrFailed}
 use Rattle.plans.proofs.write_planned.Goals as goal
 
 pub returns : goal.returns
-returns c = rw (← plan-status c.args.planned) c.say_answer.ensures
+returns c = subst (λ (s : Status). OrFailed s c.say.result) c.from.ensures c.say.ensures

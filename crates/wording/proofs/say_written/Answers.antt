@@ -1,22 +1,16 @@
 -- `wording::say_written` meets its contract: a refusal has its line, and the parts of the other are said one behind the other.
-use mathlib.Core.Path.{refl, sym, ap}
-use Rattle.meaning.specs.Answer.{accepted}
-use Rattle.meaning.specs.Results.{outcome_of}
-use Rattle.laws.proofs.Refused.{some-number}
+use mathlib.Core.Path.{sym}
 use Rattle.meaning.specs.Lister.{text}
 use Rattle.lines.proofs.Saying.{say-more, say_same}
-use Rattle.wording.specs.Worded.{refused_line}
 use Rattle.wording.proofs.WhichLine.{written-line, unwritten-line}
 use Rattle.wording.proofs.say_written.Goals as goal
 
-pub returns-in-Err : goal.returns-in-Err
-returns-in-Err c =
-    rw c.in-Err.is
-    (say_same (sym (unwritten-line (outcome_of c.in-Err.refusal) 0 (some-number c.in-Err.refusal))) (say_same (ap refused_line c.from.ensures) c.say_refused.ensures))
+pub returns-then-outcome-ne0 : goal.returns-then-outcome-ne0
+returns-then-outcome-ne0 c =
+    say_same (sym (unwritten-line c.args.outcome c.args.bytes c.if-outcome-ne0.true)) c.say_refused.ensures
 
-pub returns-in-Ok : goal.returns-in-Ok
+pub returns : goal.returns
 unfolding text
-returns-in-Ok c =
-    rw c.in-Ok.is
-    (say_same (sym (written-line accepted c.in-Ok.bytes refl))
-    (say-more (say-more c.words.ensures c.long.ensures) c.words-in-Ok.ensures))
+returns c =
+    say_same (sym (written-line c.args.outcome c.args.bytes c.if-outcome-ne0.false))
+    (say-more (say-more c.words.ensures c.long.ensures) c.words-2.ensures)
